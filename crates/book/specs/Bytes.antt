@@ -1,0 +1,61 @@
+-- The bytes of a rule book, and the limits.
+--   most..             the limits
+--   GoodClause v g c   what is asked of a clause in a book of v variables and g groups
+--   GoodClauses        the same of each of some clauses
+--   WellFormed b       what is asked of a book
+--   clauseBytes c      a clause's field: its group, its head, its body
+--   clausesBytes cs    a field for each clause, and the end
+--   bytesOf b          the whole book: the header, the clauses, the end
+-- Assumes nothing: these are definitions.
+use Prim.Native.Nat.{ℕ, _≤_}
+use mathlib.Core.Path.{_≡_}
+use mathlib.Core.List.{List, [], _∷_, _++_}
+use mathlib.Core.Bool.{true}
+use lib.ListN.{length}
+use Rattle.field.specs.Words.{wordBytes, within, rising}
+use Rattle.field.specs.Field.{fieldBytes}
+use Rattle.meaning.specs.Book.{Clause, Book}
+
+abbrev pub mostBytes : ℕ
+mostBytes = 65535
+
+abbrev pub mostVariables : ℕ
+mostVariables = 1024
+
+abbrev pub mostGroups : ℕ
+mostGroups = 32
+
+abbrev pub mostClauses : ℕ
+mostClauses = 2048
+
+abbrev pub mostBody : ℕ
+mostBody = 32
+
+pub record GoodClause (v g : ℕ) (c : Clause) : Type 0 where
+  pub one : length (c .groups) ≡ 1
+  pub inside : within 0 g (c .groups) ≡ true
+  pub head : c .head ≤ v
+  pub few : length (c .body) ≤ mostBody
+  pub variables : within 1 v (c .body) ≡ true
+  pub rises : rising 0 (c .body) ≡ true
+
+abbrev pub GoodClauses : ℕ → ℕ → List Clause → Type 0
+GoodClauses v g [] = Unit {0}
+GoodClauses v g (c ∷ cs) = GoodClause v g c × GoodClauses v g cs
+
+pub record WellFormed (b : Book) : Type 0 where
+  pub some : 1 ≤ b .variables
+  pub variables : b .variables ≤ mostVariables
+  pub groups : b .groups ≤ mostGroups
+  pub clauses : length (b .clauses) ≤ mostClauses
+  pub good : GoodClauses (b .variables) (b .groups) (b .clauses)
+
+unfoldable pub clauseBytes : Clause → List ℕ
+clauseBytes c = fieldBytes 2 (wordBytes (c .groups ++ (c .head ∷ c .body)))
+
+unfoldable pub clausesBytes : List Clause → List ℕ
+clausesBytes [] = fieldBytes 0 []
+clausesBytes (c ∷ cs) = clauseBytes c ++ clausesBytes cs
+
+unfoldable pub bytesOf : Book → List ℕ
+bytesOf b = fieldBytes 1 (wordBytes (b .variables ∷ (b .groups ∷ []))) ++ clausesBytes (b .clauses)

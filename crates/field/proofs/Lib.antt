@@ -1,0 +1,4 @@
+-- The laws that proofs here and above cite.
+pub mod Parts
+pub mod Words
+pub mod Fields

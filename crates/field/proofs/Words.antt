@@ -1,0 +1,146 @@
+-- Laws of numbers of two bytes.
+--   bytes-at, byte-at            bytes as a slice has them, both ways
+--   bytes-drop, bytes-take       of a part
+--   words-none, spelt            what some bytes spell, by their length
+--   within-.., rising-..         one turn of a test of a part's numbers
+--   words-bytes, bytes-words     numbers and their bytes, both ways
+--   length-words, length-wordBytes      how many
+-- Assumes nothing.
+use Prim.Native.Nat.{ℕ, zero, suc, _+_, _-_, _*_, _/_, _%_, _≤_, _<_}
+use mathlib.Core.Path.{_≡_, refl, ap, _∙_}
+use mathlib.Core.List.{List, [], _∷_, _++_}
+use mathlib.Core.Bool.{Bool, true, false, _&&_, false≢true}
+use native.Mathlib.Omega.{arith}
+use lib.ListN.{length, getD, take, drop}
+use lib.Seq.{drop-cons}
+use lib.Dec.{leb}
+use borrow.Author.Tests.{lt-ltb, le-ltb, le-leb, lt-leb, leb-true}
+use Rattle.field.specs.Words.{Bytes, word, wordAt, words, wordBytes, within, rising}
+use Rattle.field.proofs.Parts.{part-end}
+
+pub bytes-at : (s : List ℕ) → ((i : ℕ) → getD s i 0 < 256) → Bytes s
+bytes-at [] h = tt
+bytes-at (a ∷ s) h = (h 0, bytes-at s (λ i. h (suc i)))
+
+pub byte-at : (s : List ℕ) → Bytes s → (i : ℕ) → getD s i 0 < 256
+byte-at [] h i = omega arith
+byte-at (a ∷ s) h zero = h .0
+byte-at (a ∷ s) h (suc i) = byte-at s (h .1) i
+
+pub bytes-drop : (n : ℕ) (s : List ℕ) → Bytes s → Bytes (drop n s)
+bytes-drop zero s h = h
+bytes-drop (suc n) [] h = tt
+bytes-drop (suc n) (a ∷ s) h = bytes-drop n s (h .1)
+
+pub bytes-take : (n : ℕ) (s : List ℕ) → Bytes s → Bytes (take n s)
+bytes-take zero s h = tt
+bytes-take (suc n) [] h = tt
+bytes-take (suc n) (a ∷ s) h = (h .0, bytes-take n s (h .1))
+
+and-left : (a b : Bool) → (a && b) ≡ true → a ≡ true
+and-left true b e = refl
+and-left false b e = e
+
+and-right : (a b : Bool) → (a && b) ≡ true → b ≡ true
+and-right true b e = e
+and-right false b e = absurd (false≢true e)
+
+pub words-none : (t : List ℕ) → length t < 2 → words t ≡ []
+unfolding words
+words-none [] h = refl
+words-none (a ∷ []) h = refl
+words-none (a ∷ (b ∷ s)) h = absurd (omega arith)
+
+words-more : (t : List ℕ) → 2 ≤ length t → words t ≡ wordAt t 0 ∷ words (drop 2 t)
+unfolding words
+words-more [] h = absurd (omega arith)
+words-more (a ∷ []) h = absurd (omega arith)
+words-more (a ∷ (b ∷ s)) h = refl
+
+-- w is the first number of t
+module _ (t : List ℕ) (w : ℕ) (long : 2 ≤ length t) (is : w ≡ wordAt t 0) where
+  pub spelt : words t ≡ w ∷ words (take (length t - 2) (drop 2 t))
+  spelt = simp (words-more t long, part-end, is)
+
+  pub within-low : (low high : ℕ) → w < low → within low high (words t) ≡ false
+  unfolding within
+  within-low low high h = simp (spelt, lt-leb low w h)
+
+  pub within-high : (low high : ℕ) → low ≤ w → high < w → within low high (words t) ≡ false
+  unfolding within
+  within-high low high l h = simp (spelt, le-leb low w l, lt-leb w high h)
+
+  pub within-next : (low high : ℕ) → low ≤ w → w ≤ high → within low high (words t) ≡ within low high (words (take (length t - 2) (drop 2 t)))
+  unfolding within
+  within-next low high l h = simp (spelt, le-leb low w l, le-leb w high h)
+
+  pub rising-not : (b : ℕ) → w ≤ b → rising b (words t) ≡ false
+  unfolding rising
+  rising-not b h = simp (spelt, le-ltb b w h)
+
+  pub rising-next : (b : ℕ) → b < w → rising b (words t) ≡ rising w (words (take (length t - 2) (drop 2 t)))
+  unfolding rising
+  rising-next b h = simp (spelt, lt-ltb b w h)
+
+pub within-none : (low high : ℕ) (t : List ℕ) → length t < 2 → within low high (words t) ≡ true
+unfolding within
+within-none low high t h = simp (words-none t h)
+
+pub rising-none : (b : ℕ) (t : List ℕ) → length t < 2 → rising b (words t) ≡ true
+unfolding rising
+rising-none b t h = simp (words-none t h)
+
+-- a number's bytes spell it
+pub two-bytes : (w : ℕ) → word (w / 256) (w % 256) ≡ w
+two-bytes w = omega arith
+
+pub high-byte : (a b : ℕ) → b < 256 → word a b / 256 ≡ a
+high-byte a b h = omega arith
+
+pub low-byte : (a b : ℕ) → b < 256 → word a b % 256 ≡ b
+low-byte a b h = omega arith
+
+pub words-bytes : (ws : List ℕ) → words (wordBytes ws) ≡ ws
+unfolding words wordBytes
+words-bytes [] = refl
+words-bytes (w ∷ ws) = simp (two-bytes w, words-bytes ws)
+
+pub bytes-words : (s : List ℕ) → Bytes s → length s % 2 ≡ 0 → wordBytes (words s) ≡ s
+unfolding words wordBytes
+bytes-words [] h e = refl
+bytes-words (a ∷ []) h e = absurd (omega arith)
+bytes-words (a ∷ (b ∷ s)) h e =
+    let even : length s % 2 ≡ 0 = omega arith in
+    simp (high-byte a b (h .1 .0), low-byte a b (h .1 .0), bytes-words s (h .1 .1) even)
+
+pub length-words : (s : List ℕ) → length (words s) ≡ length s / 2
+unfolding words
+length-words [] = refl
+length-words (a ∷ []) = refl
+length-words (a ∷ (b ∷ s)) = let h = length-words s in omega arith
+
+pub length-wordBytes : (ws : List ℕ) → length (wordBytes ws) ≡ 2 * length ws
+unfolding wordBytes
+length-wordBytes [] = refl
+length-wordBytes (w ∷ ws) = let h = length-wordBytes ws in omega arith
+
+pub wordBytes-append : (us ws : List ℕ) → wordBytes (us ++ ws) ≡ wordBytes us ++ wordBytes ws
+unfolding wordBytes
+wordBytes-append [] ws = refl
+wordBytes-append (u ∷ us) ws = simp (wordBytes-append us ws)
+
+pub within-one : (low high w : ℕ) → within low high (w ∷ []) ≡ true → w ≤ high
+unfolding within
+within-one low high w e = leb-true w high (and-right (leb low w) (leb w high) (and-left (leb low w && leb w high) true e))
+
+pub one-within : (low high w : ℕ) → low ≤ w → w ≤ high → within low high (w ∷ []) ≡ true
+unfolding within
+one-within low high w l h = simp (le-leb low w l, le-leb w high h)
+
+-- two bytes in the middle are one number
+pub words-two : (r : List ℕ) (at : ℕ) → at + 2 ≤ length r → words (take 2 (drop at r)) ≡ wordAt r at ∷ []
+unfolding words
+words-two r at h = simp (drop-cons r at 0 (omega arith), drop-cons r (suc at) 0 (omega arith)) (pair (getD r at 0) (getD r (suc at) 0) (drop (suc (suc at)) r) ∙ ap (λ (k : ℕ). word (getD r at 0) (getD r k 0) ∷ []) (let e : suc at ≡ at + 1 = omega arith in e))
+  where
+    pair : (a b : ℕ) (t : List ℕ) → words (take 2 (a ∷ (b ∷ t))) ≡ word a b ∷ []
+    pair a b t = refl

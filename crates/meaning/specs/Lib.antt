@@ -1,0 +1,2 @@
+-- What the words of document 01 mean.
+pub mod Book

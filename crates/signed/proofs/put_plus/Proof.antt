@@ -1,0 +1,33 @@
+-- `signed::put_plus` meets its contract.
+-- Assumes nothing.
+use borrow.Author.Needs.{needs}
+use mathlib.Core.Path.{ap}
+use lib.ListN.{set}
+use Rattle.signed.proofs.Signs.{plus-is}
+use Rattle.signed.proofs.put_plus.Statement.{statement}
+use Rattle.signed.proofs.put_plus.Tie as tie
+use Rattle.signed.proofs.put_plus.Reads as reads
+use Rattle.signed.proofs.put_plus.Lts as lts
+
+-- src/lib.rt:33:15
+cast-out : tie.Need-cast-out
+cast-out c = search needs
+
+-- src/lib.rt:33:5
+mul-t5 : tie.Need-mul-t5
+mul-t5 c = search needs
+
+-- src/lib.rt:33:5
+slice-set-from-out : tie.Need-slice-set-from-out
+slice-set-from-out c = search needs
+
+-- src/lib.rt:29:1
+same-length : tie.Need-same-length
+same-length c = search needs
+
+-- src/lib.rt:29:1
+returns : tie.Need-returns
+returns c = ap (set (c .args .out .now) (c .args .at)) (plus-is _ (c .fits .n .fits))
+
+pub put-plus-spec : {M : Type 1} → statement M
+put-plus-spec = tie.close (tie.spec cast-out mul-t5 slice-set-from-out same-length returns)

@@ -1,0 +1,2 @@
+-- Signed numbers as a sign and a number without one.
+pub mod Signed

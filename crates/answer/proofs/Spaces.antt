@@ -1,15 +1,22 @@
 -- A call that writes, by what it is to write.
 --   written-one                 the answer determines `Written`
 --   fitting-in, fitting-out     what fits, and what does not
+--   Told, told-refused, told-written      what is answered and left, by what was to be written
+--   wrote-none, wrote-one       no store, and one
+--   wrote-append                one run of stores after another
+--   wrote-length                the space is as long as it was
+--   Writing                     the invariant of a loop that writes: what is left of all that is to be written
+--   writing-..                  its start, what it says of places, its next turn, its end
 -- Assumes nothing.
-use Prim.Native.Nat.{ℕ, _≤_, _<_}
-use mathlib.Core.Path.{_≡_, refl}
-use mathlib.Core.List.{List, [], _∷_}
+use Prim.Native.Nat.{ℕ, suc, _+_, _≤_, _<_}
+use mathlib.Core.Path.{_≡_, refl, sym, ap, _∙_}
+use mathlib.Core.List.{List, [], _∷_, _++_, append-nil, append-assoc}
 use native.Mathlib.Omega.{arith}
-use lib.ListN.{length}
+use lib.ListN.{length, drop, set, length-append}
+use lib.Seq.{sets, sets-eq, length-sets}
 use borrow.Author.Tests.{lt-ltb, le-ltb}
 use Rattle.answer.specs.Answer.{Answer, answered, refused, first, unless}
-use Rattle.answer.specs.Space.{writtenIs, fitting}
+use Rattle.answer.specs.Space.{writtenIs, fitting, counted, over, laid, Wrote}
 use Rattle.answer.specs.declared.Written.{Written}
 use Rattle.answer.specs.declared.Written.the-variants.{Count, Refused}
 
@@ -28,3 +35,76 @@ module _ {A : Type 0} (room : ℕ) (xs : List A) where
   pub fitting-out : room < length xs → fitting room xs ≡ refused 11 0
   unfolding fitting unless first
   fitting-out h = simp (lt-ltb room (length xs) h)
+
+-- what a call answers and leaves, where a is what it is to write
+module _ {A : Type 0} (a : Answer (List A)) (old : List A) where
+  abbrev pub Told : Written → List A → Type 0
+  Told r new = (writtenIs r ≡ counted a) × (new ≡ laid a old)
+
+  pub told-refused : (n at : ℕ) → a ≡ refused n at → Told (Refused n at) old
+  unfolding writtenIs counted laid
+  told-refused n at e = simp e (refl, refl)
+
+  pub told-written : (xs new : List A) (n : ℕ) → a ≡ answered xs → length xs ≤ length old → Wrote old 0 xs new n → Told (Count n) new
+  unfolding writtenIs counted laid
+  told-written xs new n e h w =
+      let z : 0 + length xs ≤ length old = omega arith in
+      let k : 0 + length xs ≡ length xs = omega arith in
+      simp e (
+        ap (λ (m : ℕ). answered (m ∷ [])) (w .place ∙ k),
+        w .list ∙ sets-eq xs old 0 z ∙ ap (λ (j : ℕ). xs ++ drop j old) k,
+      )
+
+module _ {A : Type 0} where
+  pub wrote-none : (l : List A) (at : ℕ) → Wrote l at [] l at
+  wrote-none l at = record { place = omega arith; list = refl }
+
+  pub wrote-one : (l : List A) (at : ℕ) (x : A) → Wrote l at (x ∷ []) (set l at x) (at + 1)
+  wrote-one l at x = record { place = omega arith; list = refl }
+
+  sets-append : (xs ys l : List A) (i : ℕ) → sets (sets l i xs) (i + length xs) ys ≡ sets l i (xs ++ ys)
+  sets-append [] ys l i = let e : i + 0 ≡ i = omega arith in ap (λ (k : ℕ). sets l k ys) e
+  sets-append (x ∷ xs) ys l i =
+      let e : i + suc (length xs) ≡ suc i + length xs = omega arith in
+      ap (λ (k : ℕ). sets (sets (set l i x) (suc i) xs) k ys) e ∙ sets-append xs ys (set l i x) (suc i)
+
+  pub wrote-append : (l : List A) (i : ℕ) (xs o : List A) (j : ℕ) (ys p : List A) (k : ℕ) → Wrote l i xs o j → Wrote o j ys p k → Wrote l i (xs ++ ys) p k
+  wrote-append l i xs o j ys p k u w =
+      record {
+        place = omega (arith, u .place, w .place, length-append xs ys);
+        list = w .list ∙ ap (λ (y : List A). sets y j ys) (u .list) ∙ ap (λ (n : ℕ). sets (sets l i xs) n ys) (u .place) ∙ sets-append xs ys l i;
+      }
+
+  pub wrote-length : (l : List A) (i : ℕ) (xs o : List A) (j : ℕ) → Wrote l i xs o j → length o ≡ length l
+  wrote-length l i xs o j w = ap length (w .list) ∙ length-sets l i xs
+
+-- `all` is to be written into `old` from `at` on; so far this gave `new`, with the next place i, and `left` is left
+pub record Writing {A : Type 0} (all old : List A) (at : ℕ) (new : List A) (i : ℕ) (left : List A) : Type 0 where
+  pub done : List A
+  pub wrote : Wrote old at done new i
+  pub split : all ≡ done ++ left
+
+module _ {A : Type 0} (all old : List A) (at : ℕ) where
+  pub writing-start : Writing all old at old at all
+  writing-start = record { done = []; wrote = wrote-none old at; split = refl }
+
+  module _ (new : List A) (i : ℕ) (left : List A) (p : Writing all old at new i left) where
+    pub writing-count : i + length left ≡ at + length all
+    writing-count = omega (arith, p .wrote .place, ap length (p .split) ∙ length-append (p .done) left)
+
+    pub writing-length : length new ≡ length old
+    writing-length = wrote-length old at (p .done) new i (p .wrote)
+
+    pub writing-room : at + length all ≤ length old → i + length left ≤ length new
+    writing-room h = omega (arith, writing-count, writing-length)
+
+    pub writing-end : left ≡ [] → Wrote old at all new i
+    writing-end e = simp (p .split, e, append-nil) (p .wrote)
+
+    pub writing-next : (xs rest : List A) (new′ : List A) (j : ℕ) → left ≡ xs ++ rest → Wrote new i xs new′ j → Writing all old at new′ j rest
+    writing-next xs rest new′ j e w =
+        record {
+          done = p .done ++ xs;
+          wrote = wrote-append old at (p .done) new i xs new′ j (p .wrote) w;
+          split = p .split ∙ ap (λ (l : List A). p .done ++ l) e ∙ sym (append-assoc (p .done) xs rest);
+        }

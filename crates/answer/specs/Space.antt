@@ -4,10 +4,13 @@
 --   counted a        how many were written
 --   over xs old      the space old with xs written into its front; what follows stays
 --   laid a old       the space old after a call that was to write: a refusal leaves it as it came
+--   Wrote old at xs new next      new is old with xs written from place `at` on, and next is the place after them
 -- Assumes nothing: these are definitions.
-use Prim.Native.Nat.{ℕ}
+use Prim.Native.Nat.{ℕ, _+_}
+use mathlib.Core.Path.{_≡_}
 use mathlib.Core.List.{List, [], _∷_, _++_}
 use lib.ListN.{length, drop}
+use lib.Seq.{sets}
 use lib.Dec.{ltb}
 use Rattle.answer.specs.Answer.{Answer, answered, refused, _⇒_, first, unless}
 use Rattle.answer.specs.declared.Written.{Written}
@@ -30,3 +33,7 @@ over xs old = xs ++ drop (length xs) old
 unfoldable pub laid : {A : Type 0} → Answer (List A) → List A → List A
 laid (answered xs) old = over xs old
 laid (refused n at) old = old
+
+pub record Wrote {A : Type 0} (old : List A) (at : ℕ) (xs new : List A) (next : ℕ) : Type 0 where
+  pub place : next ≡ at + length xs
+  pub list : new ≡ sets old at xs

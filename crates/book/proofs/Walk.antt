@@ -99,6 +99,7 @@ pub record Turn (v g : ℕ) (r : List ℕ) (cs : List Clause) (from to body size
   pub before : from + 2 ≤ body
   pub groups : words (take (body - 2 - from) (drop from r)) ≡ now .groups
   pub least : body ≤ size
+  pub most : size ≤ 71
   pub fits : size ≤ length r
   pub long : size ≡ body + 2 * length (now .body)
   pub numbers : words (take (size - body) (drop body r)) ≡ now .body
@@ -124,6 +125,7 @@ walk-on v g r (c ∷ cs) from to body n w e =
       before = omega arith;
       groups = ap (λ (k : ℕ). words (take k (drop from r))) gap ∙ ap (λ (k : ℕ). words (take 2 (drop k r))) one ∙ words-two r 3 (omega (arith, s .fits, s .long)) ∙ s .groups;
       least = omega (arith, s .long);
+      most = omega (arith, s .long, a .good .few);
       fits = omega (arith, s .fits);
       long = omega (arith, s .long);
       numbers = ap (λ (k : ℕ). words (take k (drop body r))) cut ∙ ap (λ (k : ℕ). words (take (len r - 4) (drop k r))) two ∙ ap words (s .part) ∙ words-bytes (c .body);

@@ -13,8 +13,8 @@ use mathlib.Core.Bool.{Bool, true, false, _&&_, false≢true}
 use native.Mathlib.Omega.{arith}
 use lib.ListN.{length, getD, take, drop}
 use lib.Seq.{drop-cons}
-use lib.Dec.{leb}
-use borrow.Author.Tests.{lt-ltb, le-ltb, le-leb, lt-leb, leb-true}
+use lib.Dec.{leb, ltb}
+use borrow.Author.Tests.{lt-ltb, le-ltb, le-leb, lt-leb, leb-true, ltb-true}
 use Rattle.field.specs.Words.{Bytes, word, wordAt, words, wordBytes, within, rising}
 use Rattle.field.proofs.Parts.{part-end}
 
@@ -37,11 +37,11 @@ bytes-take zero s h = tt
 bytes-take (suc n) [] h = tt
 bytes-take (suc n) (a ∷ s) h = (h .0, bytes-take n s (h .1))
 
-and-left : (a b : Bool) → (a && b) ≡ true → a ≡ true
+pub and-left : (a b : Bool) → (a && b) ≡ true → a ≡ true
 and-left true b e = refl
 and-left false b e = e
 
-and-right : (a b : Bool) → (a && b) ≡ true → b ≡ true
+pub and-right : (a b : Bool) → (a && b) ≡ true → b ≡ true
 and-right true b e = e
 and-right false b e = absurd (false≢true e)
 
@@ -129,13 +129,31 @@ unfolding wordBytes
 wordBytes-append [] ws = refl
 wordBytes-append (u ∷ us) ws = simp (wordBytes-append us ws)
 
-pub within-one : (low high w : ℕ) → within low high (w ∷ []) ≡ true → w ≤ high
+-- the first of some numbers, and the others
+pub within-cons : (low high w : ℕ) (ws : List ℕ) → within low high (w ∷ ws) ≡ true → (low ≤ w) × (w ≤ high) × (within low high ws ≡ true)
 unfolding within
-within-one low high w e = leb-true w high (and-right (leb low w) (leb w high) (and-left (leb low w && leb w high) true e))
+within-cons low high w ws e =
+    let a = and-left (leb low w && leb w high) (within low high ws) e in
+    (leb-true low w (and-left (leb low w) (leb w high) a), leb-true w high (and-right (leb low w) (leb w high) a), and-right (leb low w && leb w high) (within low high ws) e)
+
+pub cons-within : (low high w : ℕ) (ws : List ℕ) → low ≤ w → w ≤ high → within low high ws ≡ true → within low high (w ∷ ws) ≡ true
+unfolding within
+cons-within low high w ws l h e = simp (le-leb low w l, le-leb w high h, e)
+
+pub rising-cons : (b w : ℕ) (ws : List ℕ) → rising b (w ∷ ws) ≡ true → (b < w) × (rising w ws ≡ true)
+unfolding rising
+rising-cons b w ws e = (ltb-true b w (and-left (ltb b w) (rising w ws) e), and-right (ltb b w) (rising w ws) e)
+
+pub cons-rising : (b w : ℕ) (ws : List ℕ) → b < w → rising w ws ≡ true → rising b (w ∷ ws) ≡ true
+unfolding rising
+cons-rising b w ws h e = simp (lt-ltb b w h, e)
+
+pub within-one : (low high w : ℕ) → within low high (w ∷ []) ≡ true → w ≤ high
+within-one low high w e = within-cons low high w [] e .1
 
 pub one-within : (low high w : ℕ) → low ≤ w → w ≤ high → within low high (w ∷ []) ≡ true
 unfolding within
-one-within low high w l h = simp (le-leb low w l, le-leb w high h)
+one-within low high w l h = cons-within low high w [] l h refl
 
 -- two bytes in the middle are one number
 pub words-two : (r : List ℕ) (at : ℕ) → at + 2 ≤ length r → words (take 2 (drop at r)) ≡ wordAt r at ∷ []

@@ -3,7 +3,7 @@ ghost use mathlib.Core.Path.{_≡_};
 ghost use mathlib.Core.List.{[], _∷_};
 ghost use Prim.Native.Nat.{_+_, _<_, _≤_};
 ghost use lib.ListN.{length};
-ghost use lib.Seq.{sets};
+ghost use Rattle.answer.specs.Space.{Wrote};
 ghost use Rattle.field.specs.Words.{wordAt, words, wordBytes, within, rising};
 ghost use Rattle.field.specs.Field.{size, short};
 
@@ -18,7 +18,7 @@ pub fn word_at(s: &[u8], at: usize) -> u16
 // Writes a number at `at`, and gives the place after it.
 pub fn put_word(w: u16, out: &mut [u8], at: usize) -> usize
     requires { ⌜ at + 2 ≤ length (now out) ⌝ }
-    ensures { λ r. ⌜ (r ≡ at + 2) × (now (out .exit) ≡ sets (now (out .entry)) at (wordBytes (w ∷ []))) ⌝ }
+    ensures { λ r. ⌜ Wrote (now (out .entry)) at (wordBytes (w ∷ [])) (now (out .exit)) r ⌝ }
 {
     out[at] = (w / 256) as u8;
     out[at + 1] = (w % 256) as u8;

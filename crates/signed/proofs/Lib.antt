@@ -1,2 +1,3 @@
--- The laws that the functions' proofs cite.
+-- The laws that proofs here and above cite.
 mod Signs
+pub mod Split

@@ -32,7 +32,7 @@ same-length c = search needs
 
 returns : tie.Need-returns
 unfolding wordBytes
-returns c = (search needs, simp (add-one (c .args .at)))
+returns c = record { place = search needs; list = simp (add-one (c .args .at)) }
 
 pub put-word-spec : {M : Type 1} → statement M
 put-word-spec =

@@ -1,0 +1,111 @@
+-- `reader::plain_length` meets its contract. The loop's invariant is `Adding`, of `Walks.antt`.
+-- Assumes nothing.
+use mathlib.Core.Path.{_≡_, refl, sym, ap, _∙_}
+use native.Mathlib.Omega.{arith}
+use denote.Ref.{now}
+use lib.ListN.{length}
+use Rattle.field.proofs.Parts.{part-shorter}
+use Rattle.book.specs.Walk.{bookOf}
+use Rattle.book.proofs.Walk.{Begun, begun, Turn, walk-on}
+use Rattle.plain.specs.Plain.{plainClauses, plainOf}
+use Rattle.reader.proofs.Walks.{Adding, adding-end, adding-next}
+use Prim.Native.Nat.{_+_}
+use borrow.Author.Needs.{needs}
+use Rattle.reader.proofs.plain_length.Statement.{statement}
+use Rattle.reader.proofs.plain_length.Tie as tie
+
+abbrev Inv-loop : tie.InvT-loop
+Inv-loop book rest₀ n₀ rest n = Adding (bookOf book .variables) (bookOf book .groups) (bookOf book .clauses) rest n
+
+abbrev μ-loop : tie.MeasureT-loop
+μ-loop book rest₀ n₀ rest n = length rest
+
+-- the book is accepted, so the walk can begin
+start : (c : tie.After-shared-slice-known Inv-loop μ-loop) → Begun (now (c .before .args .book))
+start c = begun _ (c .before .pre)
+
+-- at a clause
+turn : (c : tie.After-groups Inv-loop μ-loop)
+    → let at = c .before .before .before in
+    let b = bookOf (now (at .before .before .before .args .book)) in
+    let d = c .groups .given .0 in
+    Turn (b .variables) (b .groups) (at .loop .rest .now) (at .loop .inv .left) (d .0) (d .1 .0) (d .1 .1 .0) (d .1 .1 .1 .0)
+turn c =
+    let at = c .before .before .before in
+    walk-on _ _ _ _ _ _ _ _ (at .loop .inv .walk) (sym (c .before .before .front-of .ensures) ∙ c .groups .given .1)
+
+sub-rest : tie.Need-sub-rest Inv-loop μ-loop
+sub-rest c = omega (arith, start c .long)
+
+part-rest-start : tie.Need-part-rest-start Inv-loop μ-loop
+part-rest-start c = omega (arith, start c .long)
+
+part-rest-end : tie.Need-part-rest-end Inv-loop μ-loop
+part-rest-end c = search needs
+
+loop-holds : tie.Need-loop-holds Inv-loop μ-loop
+loop-holds c =
+    let b = start (c .before) in
+    record { left = bookOf (now (c .before .before .args .book)) .clauses; walk = b .walk; sum = refl; small = omega (arith, b .most) }
+
+front-of-requires : tie.Need-front-of-requires Inv-loop μ-loop
+front-of-requires c κs = tt
+
+enum-told : tie.Need-enum-told Inv-loop μ-loop
+enum-told c = search needs
+
+returns : tie.Need-returns Inv-loop μ-loop
+unfolding plainOf
+returns c = omega (arith, adding-end _ _ _ _ _ (c .before .before .before .loop .inv) (sym (c .before .before .front-of .ensures) ∙ c .enum-told .given .1))
+
+enum-known-groups : tie.Need-enum-known-groups Inv-loop μ-loop
+enum-known-groups c = search needs
+
+clause-length-requires : tie.Need-clause-length-requires Inv-loop μ-loop
+clause-length-requires c κs =
+    let t = turn (c .before) in
+    (t .before, t .least, omega (arith, t .most))
+
+add-n : tie.Need-add-n Inv-loop μ-loop
+add-n c =
+    let k = adding-next _ _ _ (c .before .before .before .before .before .loop .rest .now) _ _ _ _ _ (c .before .before .before .before .before .loop .inv) (turn (c .before .before)) _ (c .clause-length .ensures) in
+    omega (arith, k .small)
+
+sub-rest-2 : tie.Need-sub-rest-2 Inv-loop μ-loop
+sub-rest-2 c = omega (arith, turn (c .before .before) .fits)
+
+part-rest-start-2 : tie.Need-part-rest-start-2 Inv-loop μ-loop
+part-rest-start-2 c = omega (arith, turn (c .before .before) .fits)
+
+part-rest-end-2 : tie.Need-part-rest-end-2 Inv-loop μ-loop
+part-rest-end-2 c = search needs
+
+loop-less : tie.Need-loop-less Inv-loop μ-loop
+loop-less c =
+    let t = turn (c .before .before .before) in
+    part-shorter (c .before .before .before .before .before .before .loop .rest .now) _ (omega (arith, t .before, t .least)) (t .fits)
+
+loop-again : tie.Need-loop-again Inv-loop μ-loop
+loop-again c = adding-next _ _ _ (c .before .before .before .before .before .before .loop .rest .now) _ _ _ _ _ (c .before .before .before .before .before .before .loop .inv) (turn (c .before .before .before)) _ (c .before .clause-length .ensures)
+
+pub plain-length-spec : {M : Type 1} → statement M
+plain-length-spec =
+    tie.close
+    (tie.spec
+    Inv-loop
+    μ-loop
+    sub-rest
+    part-rest-start
+    part-rest-end
+    loop-holds
+    front-of-requires
+    enum-told
+    returns
+    enum-known-groups
+    clause-length-requires
+    add-n
+    sub-rest-2
+    part-rest-start-2
+    part-rest-end-2
+    loop-less
+    loop-again)

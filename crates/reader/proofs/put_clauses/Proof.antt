@@ -1,0 +1,134 @@
+-- `reader::put_clauses` meets its contract. The loop's invariant is `Filling`, of `Walks.antt`.
+-- Assumes nothing.
+use mathlib.Core.Path.{_≡_, refl, sym, ap, _∙_}
+use native.Mathlib.Omega.{arith}
+use denote.Ref.{now}
+use lib.ListN.{length}
+use Rattle.field.proofs.Parts.{part-shorter}
+use Rattle.book.specs.Walk.{bookOf}
+use Rattle.book.proofs.Walk.{Begun, begun, Turn, walk-on}
+use Rattle.plain.specs.Plain.{plainClauses, plainOf}
+use Rattle.answer.proofs.Spaces.{writing-start, writing-length}
+use Rattle.reader.proofs.Walks.{Filling, filling-room, filling-end, filling-next}
+use borrow.Author.Needs.{needs}
+use Rattle.reader.proofs.put_clauses.Statement.{statement}
+use Rattle.reader.proofs.put_clauses.Tie as tie
+
+abbrev Inv-loop : tie.InvT-loop
+Inv-loop book out₀ rest₀ at₀ out rest at = Filling (bookOf book .variables) (bookOf book .groups) (bookOf book .clauses) out₀ out rest at
+
+abbrev μ-loop : tie.MeasureT-loop
+μ-loop book out₀ rest₀ at₀ out rest at = length rest
+
+-- the book is accepted, so the walk can begin
+start : (c : tie.After-shared-slice-known Inv-loop μ-loop) → Begun (now (c .before .args .book))
+start c = begun _ (c .before .pre .0)
+
+-- at a clause
+turn : (c : tie.After-groups Inv-loop μ-loop)
+    → let at = c .before .before .before in
+    let b = bookOf (now (at .before .before .before .args .book)) in
+    let d = c .groups .given .0 in
+    Turn (b .variables) (b .groups) (at .loop .rest .now) (at .loop .inv .left) (d .0) (d .1 .0) (d .1 .1 .0) (d .1 .1 .1 .0)
+turn c =
+    let at = c .before .before .before in
+    walk-on _ _ _ _ _ _ _ _ (at .loop .inv .walk) (sym (c .before .before .front-of .ensures) ∙ c .groups .given .1)
+
+sub-rest : tie.Need-sub-rest Inv-loop μ-loop
+sub-rest c = omega (arith, start c .long)
+
+part-rest-start : tie.Need-part-rest-start Inv-loop μ-loop
+part-rest-start c = omega (arith, start c .long)
+
+part-rest-end : tie.Need-part-rest-end Inv-loop μ-loop
+part-rest-end c = search needs
+
+loop-holds : tie.Need-loop-holds Inv-loop μ-loop
+loop-holds c = record { left = bookOf (now (c .before .before .args .book)) .clauses; walk = start (c .before) .walk; writing = writing-start _ _ _ }
+
+front-of-requires : tie.Need-front-of-requires Inv-loop μ-loop
+front-of-requires c κs = tt
+
+enum-told : tie.Need-enum-told Inv-loop μ-loop
+enum-told c = search needs
+
+same-length : tie.Need-same-length Inv-loop μ-loop
+same-length c = writing-length _ _ _ _ _ _ (c .before .before .before .loop .inv .writing)
+
+returns : tie.Need-returns Inv-loop μ-loop
+returns c = filling-end _ _ _ _ _ _ _ (c .before .before .before .loop .inv) (sym (c .before .before .front-of .ensures) ∙ c .enum-told .given .1)
+
+enum-known-groups : tie.Need-enum-known-groups Inv-loop μ-loop
+enum-known-groups c = search needs
+
+sub-last : tie.Need-sub-last Inv-loop μ-loop
+sub-last c = omega (arith, turn (c .before) .before)
+
+sub-put-clause : tie.Need-sub-put-clause Inv-loop μ-loop
+sub-put-clause c = omega (arith, turn (c .before) .before, turn (c .before) .least, turn (c .before) .fits)
+
+part-put-clause-start : tie.Need-part-put-clause-start Inv-loop μ-loop
+part-put-clause-start c = omega (arith, turn (c .before) .before, turn (c .before) .least, turn (c .before) .fits)
+
+part-put-clause-end : tie.Need-part-put-clause-end Inv-loop μ-loop
+part-put-clause-end c = omega (arith, turn (c .before) .before, turn (c .before) .least, turn (c .before) .fits)
+
+sub-put-clause-2 : tie.Need-sub-put-clause-2 Inv-loop μ-loop
+sub-put-clause-2 c = omega (arith, turn (c .before .before) .least, turn (c .before .before) .fits)
+
+part-put-clause-start-2 : tie.Need-part-put-clause-start-2 Inv-loop μ-loop
+part-put-clause-start-2 c = omega (arith, turn (c .before .before) .least, turn (c .before .before) .fits)
+
+part-put-clause-end-2 : tie.Need-part-put-clause-end-2 Inv-loop μ-loop
+part-put-clause-end-2 c = omega (arith, turn (c .before .before) .least, turn (c .before .before) .fits)
+
+put-clause-requires : tie.Need-put-clause-requires Inv-loop μ-loop
+put-clause-requires c κs =
+    let l = c .before .before .before .before .before .before .before in
+    filling-room _ _ _ _ _ (l .loop .rest .now) _ _ _ _ _ (l .loop .inv) (turn (c .before .before .before .before)) (l .before .before .before .pre .1)
+
+sub-rest-2 : tie.Need-sub-rest-2 Inv-loop μ-loop
+sub-rest-2 c = omega (arith, turn (c .before .before .before .before .before .before) .fits)
+
+part-rest-start-2 : tie.Need-part-rest-start-2 Inv-loop μ-loop
+part-rest-start-2 c = omega (arith, turn (c .before .before .before .before .before .before) .fits)
+
+part-rest-end-2 : tie.Need-part-rest-end-2 Inv-loop μ-loop
+part-rest-end-2 c = search needs
+
+loop-less : tie.Need-loop-less Inv-loop μ-loop
+loop-less c =
+    let t = turn (c .before .before .before .before .before .before .before) in
+    part-shorter (c .before .before .before .before .before .before .before .before .before .before .loop .rest .now) _ (omega (arith, t .before, t .least)) (t .fits)
+
+loop-again : tie.Need-loop-again Inv-loop μ-loop
+loop-again c = filling-next _ _ _ _ _ (c .before .before .before .before .before .before .before .before .before .before .loop .rest .now) _ _ _ _ _ (c .before .before .before .before .before .before .before .before .before .before .loop .inv) (turn (c .before .before .before .before .before .before .before)) _ _ (c .before .before .put-clause .ensures)
+
+pub put-clauses-spec : {M : Type 1} → statement M
+put-clauses-spec =
+    tie.close
+    (tie.spec
+    Inv-loop
+    μ-loop
+    sub-rest
+    part-rest-start
+    part-rest-end
+    loop-holds
+    front-of-requires
+    enum-told
+    same-length
+    returns
+    enum-known-groups
+    sub-last
+    sub-put-clause
+    part-put-clause-start
+    part-put-clause-end
+    sub-put-clause-2
+    part-put-clause-start-2
+    part-put-clause-end-2
+    put-clause-requires
+    sub-rest-2
+    part-rest-start-2
+    part-rest-end-2
+    loop-less
+    loop-again)

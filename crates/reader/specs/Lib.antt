@@ -1,0 +1,2 @@
+-- What reading a book to plain form answers, and what it writes.
+pub mod Reads

@@ -1,0 +1,41 @@
+-- `signed::size_at` meets its contract.
+-- Assumes nothing.
+use Prim.Native.Nat.{ℕ, _%_}
+use mathlib.Core.Path.{sym, ap, _∙_}
+use Rattle.signed.proofs.Split.{size-plus, size-minus}
+use borrow.Author.Needs.{needs}
+use Rattle.signed.proofs.size_at.Statement.{statement}
+use Rattle.signed.proofs.size_at.Tie as tie
+
+number-at-requires : tie.Need-number-at-requires
+number-at-requires c κs = search needs
+
+enum-known-n : tie.Need-enum-known-n
+enum-known-n c = search needs
+
+cast-result : tie.Need-cast-result
+cast-result c = search needs
+
+enum-known-n-2 : tie.Need-enum-known-n-2
+enum-known-n-2 c = search needs
+
+cast-result-2 : tie.Need-cast-result-2
+cast-result-2 c = search needs
+
+returns : tie.Need-returns
+returns c = ap (λ (k : ℕ). k % 65536) (size-plus _ _ (sym (c .before .before .before .number-at .ensures) ∙ c .before .n .given .1))
+
+returns-2 : tie.Need-returns-2
+returns-2 c = ap (λ (k : ℕ). k % 65536) (size-minus _ _ (sym (c .before .before .before .number-at .ensures) ∙ c .before .n2 .given .1))
+
+pub size-at-spec : {M : Type 1} → statement M
+size-at-spec =
+    tie.close
+    (tie.spec
+    number-at-requires
+    enum-known-n
+    cast-result
+    enum-known-n-2
+    cast-result-2
+    returns
+    returns-2)

@@ -6,7 +6,7 @@
 --   never                   an answer is no refusal
 -- Assumes nothing.
 use Prim.Native.Nat.{ℕ, zero, suc}
-use mathlib.Core.Path.{_≡_, refl, ap}
+use mathlib.Core.Path.{_≡_, refl, sym, ap}
 use native.Mathlib.Omega.{arith}
 use Rattle.answer.specs.Answer.{Answer, answered, refused, andThen, unless}
 
@@ -37,10 +37,11 @@ module _ {A : Type 0} where
   unless-none zero at a e = refl
   unless-none (suc n) at a e = absurd (omega arith)
 
-  pub unless-some : (n at : ℕ) (a : Answer A) → (n ≡ 0 → ⊥) → unless n at a ≡ refused n at
+  -- n is what was found to be wrong
+  pub unless-some : (n m at : ℕ) (a : Answer A) → n ≡ m → (n ≡ 0 → ⊥) → unless m at a ≡ refused n at
   unfolding unless
-  unless-some zero at a e = absurd (e refl)
-  unless-some (suc n) at a e = refl
+  unless-some zero m at a e h = absurd (h refl)
+  unless-some (suc n) m at a e h = ap (λ (k : ℕ). unless k at a) (sym e)
 
   pub unless-is : (n at : ℕ) (a : Answer A) (x : A) → unless n at a ≡ answered x → (n ≡ 0) × (a ≡ answered x)
   unfolding unless

@@ -22,7 +22,7 @@ use Rattle.book.proofs.Tests.{header-ok}
 module _ (v g left at : ℕ) (r : List ℕ) where
   field-bad : (n : ℕ) → n ≡ wrongField v g left r → (n ≡ 0 → ⊥) → field v g left at r ≡ refused n at
   unfolding field
-  field-bad n e h = simp (← e) (unless-some n at _ h)
+  field-bad n e h = unless-some n _ at _ e h
 
   module _ (right : wrongField v g left r ≡ 0) where
     field-end : tag r ≡ 0 → field v g left at r ≡ answered none
@@ -62,12 +62,12 @@ ending-more at (a ∷ r) h = refl
 module _ (s : List ℕ) where
   pub reading-long : mostBytes < length s → reading s ≡ refused 1 0
   unfolding reading header first _orElse_
-  reading-long h = then-not _ 1 0 _ (simp (lt-ltb mostBytes (length s) h) (unless-some 1 0 _ (λ z. omega arith)))
+  reading-long h = then-not _ 1 0 _ (simp (lt-ltb mostBytes (length s) h) (unless-some 1 1 0 _ refl (λ z. omega arith)))
 
   module _ (short : length s ≤ mostBytes) where
     pub reading-bad : (n : ℕ) → n ≡ wrongHeader s → (n ≡ 0 → ⊥) → reading s ≡ refused n 0
     unfolding reading header first _orElse_
-    reading-bad n e h = then-not _ n 0 _ (simp (le-ltb mostBytes (length s) short, ← e) (unless-some n 0 _ h))
+    reading-bad n e h = then-not _ n 0 _ (simp (le-ltb mostBytes (length s) short) (unless-some n (wrongHeader s) 0 _ e h))
 
     header-is : wrongHeader s ≡ 0 → header s ≡ withClauses (variablesOf s) (groupsOf s) []
     unfolding header first _orElse_

@@ -5,4 +5,5 @@ mod Counting
 pub mod Written
 pub mod Inverse
 pub mod Walk
+pub mod Sizes
 pub mod Checks

@@ -6,8 +6,9 @@
 --   clauseBytes c      a clause's field: its group, its head, its body
 --   clausesBytes cs    a field for each clause, and the end
 --   bytesOf b          the whole book: the header, the clauses, the end
+--   sizesOf cs         7, and twice the size of the body, for each clause
 -- Assumes nothing: these are definitions.
-use Prim.Native.Nat.{ℕ, _≤_}
+use Prim.Native.Nat.{ℕ, _+_, _*_, _≤_}
 use mathlib.Core.Path.{_≡_}
 use mathlib.Core.List.{List, [], _∷_, _++_}
 use mathlib.Core.Bool.{true}
@@ -59,3 +60,7 @@ clausesBytes (c ∷ cs) = clauseBytes c ++ clausesBytes cs
 
 unfoldable pub bytesOf : Book → List ℕ
 bytesOf b = fieldBytes 1 (wordBytes (b .variables ∷ (b .groups ∷ []))) ++ clausesBytes (b .clauses)
+
+unfoldable pub sizesOf : List Clause → ℕ
+sizesOf [] = 0
+sizesOf (c ∷ cs) = 7 + 2 * length (c .body) + sizesOf cs

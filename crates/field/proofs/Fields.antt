@@ -1,16 +1,18 @@
 -- Laws of a field that stands first in some bytes.
 --   short-none, short-no     the bytes that it takes are there, both ways
+--   field-front              a field is its front, and then its value
 --   field-..                 what is found where a field was written, with `rest` after it
 -- Assumes nothing.
 use Prim.Native.Nat.{ℕ, _+_, _/_, _%_, _≤_, _<_}
 use mathlib.Core.Path.{_≡_, refl, ap, _∙_}
-use mathlib.Core.List.{List, _∷_, _++_}
+use mathlib.Core.List.{List, [], _∷_, _++_}
 use mathlib.Core.Bool.{Bool, true, false, _||_}
 use native.Mathlib.Omega.{arith}
 use lib.ListN.{length, take, length-append}
 use lib.Seq.{drop-append-seam, take-at}
 use lib.Dec.{ltb}
 use borrow.Author.Tests.{lt-ltb, le-ltb, ltb-false}
+use Rattle.field.specs.Words.{wordBytes}
 use Rattle.field.specs.Field.{tag, len, size, short, after, fieldBytes}
 use Rattle.field.proofs.Parts.{drop-three}
 use Rattle.field.proofs.Words.{two-bytes}
@@ -54,3 +56,7 @@ module _ (t : ℕ) (value rest : List ℕ) where
 pub length-field : (t : ℕ) (value : List ℕ) → length (fieldBytes t value) ≡ 3 + length value
 unfolding fieldBytes
 length-field t value = omega arith
+
+pub field-front : (t : ℕ) (value : List ℕ) → (t ∷ wordBytes (length value ∷ [])) ++ value ≡ fieldBytes t value
+unfolding fieldBytes wordBytes
+field-front t value = refl

@@ -25,6 +25,15 @@ pub fn put_word(w: u16, out: &mut [u8], at: usize) -> usize
     at + 2
 }
 
+// Writes the front of a field at `at`: its tag, and the length of its value; and gives the place of the value.
+pub fn put_front(tag: u8, n: u16, out: &mut [u8], at: usize) -> usize
+    requires { ⌜ at + 3 ≤ length (now out) ⌝ }
+    ensures { λ r. ⌜ Wrote (now (out .entry)) at (tag ∷ wordBytes (n ∷ [])) (now (out .exit)) r ⌝ }
+{
+    out[at] = tag;
+    put_word(n, out, at + 1)
+}
+
 // Whether each number of a part is from `low` to `high`.
 pub fn all_within(part: &[u8], low: u16, high: u16) -> bool
     ensures { λ r. ⌜ r ≡ within low high (words (now (part .entry))) ⌝ }

@@ -1,6 +1,10 @@
 -- What is given in plain form is taken back: taking the plain form of a well-formed book gives that book.
---   length-literals, plain-one     the parts of a clause
---   taking-given                   the whole book
+--   length-each        as many numbers with a sign as without
+--   clause-numbers     how many numbers a clause is
+--   number-right       a number within its limits is taken
+--   plain-one          the parts of a clause
+--   Fine, body-taken   a clause's literals are taken back
+--   taking-given       the whole book is
 -- Assumes nothing.
 use Prim.Native.Nat.{ℕ, zero, suc, _+_, _≤_, _<_}
 use mathlib.Core.Path.{_≡_, refl, sym, ap, _∙_}
@@ -8,7 +12,7 @@ use mathlib.Core.List.{List, [], _∷_, _++_, append-assoc}
 use mathlib.Core.Bool.{Bool, true, false, not, _&&_, false≢true}
 use native.Mathlib.Omega.{arith}
 use lib.IntN.{ℤ, pos, negsuc, natAbs}
-use lib.ListN.{length}
+use lib.ListN.{length, length-append}
 use lib.Dec.{ltb, leb}
 use borrow.Author.Tests.{le-ltb, lt-ltb, le-leb, lt-leb, leb-true, ltb-true, eq-eqb, ne-eqb}
 use Rattle.answer.specs.Answer.{Answer, answered, andThen, first, unless}
@@ -18,8 +22,25 @@ use Rattle.field.proofs.Words.{within-one, within-cons, rising-cons}
 use Rattle.meaning.specs.Book.{Clause, Book}
 use Rattle.book.specs.Bytes.{mostVariables, mostGroups, mostClauses, mostBody, GoodClause, GoodClauses, WellFormed}
 use Rattle.book.specs.Reading.{withClauses}
-use Rattle.plain.specs.Plain.{each, literals, headLiteral, plainClause, plainClauses, plainOf}
+use Rattle.plain.specs.Plain.{minus, each, literals, headLiteral, plainClause, plainClauses, plainOf}
 use Rattle.plain.specs.Taking.{between, numberAt, Named, named, groupsAt, headTests, bodyTests, Ended, ended, literalsAt, starting, clausesAt, afterVariables, taking}
+
+pub length-each : (sign : ℕ → ℤ) (ns : List ℕ) → length (each sign ns) ≡ length ns
+unfolding each
+length-each sign [] = refl
+length-each sign (n ∷ ns) = ap suc (length-each sign ns)
+
+pub clause-numbers : (c : Clause) → length (plainClause c) ≡ length (c .groups) + length (c .body) + length (headLiteral (c .head)) + 1
+unfolding plainClause
+clause-numbers c =
+    omega (
+      arith,
+      length-append (each pos (c .groups)) (each minus (c .body) ++ (headLiteral (c .head) ++ (pos 0 ∷ []))),
+      length-append (each minus (c .body)) (headLiteral (c .head) ++ (pos 0 ∷ [])),
+      length-append (headLiteral (c .head)) (pos 0 ∷ []),
+      length-each pos (c .groups),
+      length-each minus (c .body),
+    )
 
 pub number-right : (low high i n : ℕ) → low ≤ n → n ≤ high → numberAt low high i (pos n) ≡ answered n
 unfolding numberAt between first unless
@@ -48,7 +69,7 @@ unfolding literalsAt headLiteral first unless
 head-taken v last count i zero xs k = (i + 1, refl)
 head-taken v last count i (suc h) xs k = (i + 1 + 1, simp (le-ltb v (suc h) k))
 
-body-taken : (v last count i h : ℕ) (ws : List ℕ) (xs : List ℤ) → h ≤ v → Fine v last count ws
+pub body-taken : (v last count i h : ℕ) (ws : List ℕ) (xs : List ℤ) → h ≤ v → Fine v last count ws
     → (j : ℕ) × (literalsAt v 0 last count i (literals ws ++ (headLiteral h ++ (pos 0 ∷ xs))) ≡ ended h ws j xs)
 unfolding each literalsAt first
 body-taken v last count i h [] xs k f = head-taken v last count i h xs k

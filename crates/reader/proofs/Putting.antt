@@ -1,8 +1,6 @@
 -- Writing the numbers of a part, a head and a clause.
---   length-each        as many as there are
 --   put-more, put-none     a part's numbers, by whether one is left
 --   head-none, head-some   a head, by whether there is one
---   clause-length      how many numbers a clause is
 --   clause-wrote       its groups, its body, its head and 0, one after the other
 -- Assumes nothing.
 use Prim.Native.Nat.{ℕ, zero, suc, _+_, _-_, _≤_, _<_}
@@ -11,7 +9,7 @@ use mathlib.Core.List.{List, [], _∷_, _++_}
 use mathlib.Core.Bool.{true, false}
 use native.Mathlib.Omega.{arith}
 use lib.IntN.{ℤ, pos}
-use lib.ListN.{length, take, drop, set, length-append}
+use lib.ListN.{length, take, drop, set}
 use Rattle.answer.specs.Space.{Wrote}
 use Rattle.answer.proofs.Spaces.{wrote-one, wrote-append}
 use Rattle.field.specs.Words.{wordAt, words}
@@ -19,11 +17,6 @@ use Rattle.field.proofs.Words.{spelt, words-none}
 use Rattle.signed.specs.Signed.{signOf}
 use Rattle.plain.specs.Plain.{minus, each, headLiteral, plainClause}
 use Rattle.reader.specs.Reads.{clauseFrom}
-
-pub length-each : (sign : ℕ → ℤ) (ns : List ℕ) → length (each sign ns) ≡ length ns
-unfolding each
-length-each sign [] = refl
-length-each sign (n ∷ ns) = ap suc (length-each sign ns)
 
 -- one turn of writing a part's numbers: w is the first of t
 module _ (sign : ℕ → ℤ) (t : List ℕ) where
@@ -53,18 +46,6 @@ each-sign f g [] e = refl
 each-sign f g (n ∷ ns) e = simp (e n, each-sign f g ns e)
 
 module _ (gs : List ℕ) (h : ℕ) (ws : List ℕ) where
-  pub clause-length : length (plainClause (clauseFrom gs h ws)) ≡ length gs + length ws + length (headLiteral h) + 1
-  unfolding plainClause
-  clause-length =
-      omega (
-        arith,
-        length-append (each pos gs) (each minus ws ++ (headLiteral h ++ (pos 0 ∷ []))),
-        length-append (each minus ws) (headLiteral h ++ (pos 0 ∷ [])),
-        length-append (headLiteral h) (pos 0 ∷ []),
-        length-each pos gs,
-        length-each minus ws,
-      )
-
   pub clause-wrote : (l : List ℤ) (at : ℕ) (o1 : List ℤ) (a : ℕ) (o2 : List ℤ) (b : ℕ) (o3 : List ℤ) (c : ℕ) (o4 : List ℤ)
       → Wrote l at (each (signOf false) gs) o1 a → Wrote o1 a (each (signOf true) ws) o2 b → Wrote o2 b (headLiteral h) o3 c → o4 ≡ set o3 c (pos 0)
       → Wrote l at (plainClause (clauseFrom gs h ws)) o4 (c + 1)

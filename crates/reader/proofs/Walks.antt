@@ -20,8 +20,8 @@ use Rattle.book.specs.Walk.{frontOf}
 use Rattle.book.specs.declared.Front.the-variants as Front·v
 use Rattle.book.proofs.Walk.{Walk, Turn, walk-over}
 use Rattle.plain.specs.Plain.{headLiteral, plainClause, plainClauses}
+use Rattle.plain.proofs.Given.{clause-numbers}
 use Rattle.reader.specs.Reads.{clauseFrom}
-use Rattle.reader.proofs.Putting.{clause-length}
 
 -- at most one number is a head
 head-length : (h : ℕ) → length (headLiteral h) ≤ 1
@@ -47,7 +47,7 @@ module _ (v g : ℕ) (r : List ℕ) (cs : List Clause) (from to body n : ℕ) (t
       let ws = take (n - body) (drop body r) in
       omega (
         arith,
-        clause-length (words gs) to (words ws),
+        clause-numbers (clauseFrom (words gs) to (words ws)),
         length-words gs,
         length-words ws,
         part-length r from (body - 2 - from) (omega (arith, t .before, t .least, t .fits)),
@@ -58,7 +58,7 @@ module _ (v g : ℕ) (r : List ℕ) (cs : List Clause) (from to body n : ℕ) (t
   turn-most =
       omega (
         arith,
-        ap length here-is ∙ clause-length (t .now .groups) (t .now .head) (t .now .body),
+        ap length here-is ∙ clause-numbers (t .now),
         t .good .one,
         t .good .few,
         head-length (t .now .head),

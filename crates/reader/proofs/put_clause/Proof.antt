@@ -10,14 +10,16 @@ use Rattle.signed.specs.Signed.{signOf}
 use mathlib.Core.Bool.{true, false}
 use Rattle.plain.specs.Plain.{headLiteral}
 use Rattle.answer.proofs.Spaces.{wrote-length}
-use Rattle.reader.proofs.Putting.{length-each, clause-length, clause-wrote}
+use Rattle.plain.proofs.Given.{length-each, clause-numbers}
+use Rattle.reader.specs.Reads.{clauseFrom}
+use Rattle.reader.proofs.Putting.{clause-wrote}
 use borrow.Author.Needs.{needs}
 use Rattle.reader.proofs.put_clause.Statement.{statement}
 use Rattle.reader.proofs.put_clause.Tie as tie
 
 -- there is room for each part, and each call leaves the space as long as it was
 fits : (c : tie.Start) → c .args .at + (length (words (now (c .args .groups))) + length (words (now (c .args .body))) + length (headLiteral (c .args .head)) + 1) ≤ length (now (c .args .out))
-fits c = omega (arith, c .pre, clause-length (words (now (c .args .groups))) (c .args .head) (words (now (c .args .body))))
+fits c = omega (arith, c .pre, clause-numbers (clauseFrom (words (now (c .args .groups))) (c .args .head) (words (now (c .args .body)))))
 
 first : (c : tie.After-put-numbers) → (length (c .put-numbers .last .1 .1 .0) ≡ length (now (c .before .before .before .before .args .out))) × (c .put-numbers .result ≡ c .before .before .before .before .args .at + length (words (now (c .before .before .before .before .args .groups))))
 first c =

@@ -10,7 +10,8 @@ use Rattle.field.proofs.Parts.{part-shorter}
 use Rattle.signed.specs.Signed.{signOf}
 use Rattle.plain.specs.Plain.{each}
 use Rattle.answer.proofs.Spaces.{Writing, writing-start, writing-room, writing-length, writing-next, writing-end, wrote-one}
-use Rattle.reader.proofs.Putting.{length-each, put-more, put-none}
+use Rattle.plain.proofs.Given.{length-each}
+use Rattle.reader.proofs.Putting.{put-more, put-none}
 use denote.Ref.{now}
 use Prim.Native.Nat.{_<_}
 use borrow.Author.Needs.{needs}

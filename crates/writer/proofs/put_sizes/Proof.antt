@@ -1,0 +1,90 @@
+-- `writer::put_sizes` meets its contract. The loop's invariant is `Writing`: what is left of the part is what is left to be written.
+-- Assumes nothing.
+use Prim.Native.Nat.{_+_, _≤_}
+use mathlib.Core.Path.{_≡_, ap, _∙_}
+use mathlib.Core.List.{[], _∷_, _++_}
+use native.Mathlib.Omega.{arith}
+use denote.Ref.{now}
+use lib.ListN.{length, length-append}
+use Rattle.field.specs.Words.{wordBytes}
+use Rattle.field.proofs.Words.{length-wordBytes}
+use Rattle.answer.proofs.Spaces.{Writing, writing-start, writing-room, writing-length, writing-next, writing-end}
+use Rattle.writer.specs.Steps.{sizes}
+use Rattle.writer.proofs.Firsts.{after-length}
+use Rattle.writer.proofs.Copying.{length-sizes, sizes-none, sizes-more}
+use borrow.Author.Needs.{needs}
+use Rattle.writer.proofs.put_sizes.Statement.{statement}
+use Rattle.writer.proofs.put_sizes.Tie as tie
+
+abbrev Inv-loop : tie.InvT-loop
+Inv-loop part out₀ at t₀ i₀ out t i = Writing (wordBytes (sizes part)) out₀ at out i (wordBytes (sizes t))
+
+abbrev μ-loop : tie.MeasureT-loop
+μ-loop part out₀ at t₀ i₀ out t i = length t
+
+some : (c : tie.In-loop Inv-loop μ-loop) → length (c .before .loop .t .now) ≡ 0 → ⊥
+some c z = omega (arith, c .loop-test .taken)
+
+-- there is room for one number more
+room : (c : tie.In-loop Inv-loop μ-loop) → c .before .loop .i + 2 ≤ length (c .before .loop .out)
+room c =
+    let l = c .before .loop in
+    let a = c .before .before .before in
+    let p = now (a .args .part) in
+    let t = l .t .now in
+    omega (
+      arith,
+      writing-room _ _ _ _ _ _ (l .inv) (omega (arith, a .pre, length-wordBytes (sizes p), length-sizes p)),
+      length-wordBytes (sizes t),
+      length-sizes t,
+      c .loop-test .taken,
+    )
+
+loop-holds : tie.Need-loop-holds Inv-loop μ-loop
+loop-holds c = writing-start _ _ _
+
+size-at-requires : tie.Need-size-at-requires Inv-loop μ-loop
+size-at-requires c κs = search needs
+
+put-word-requires : tie.Need-put-word-requires Inv-loop μ-loop
+put-word-requires c κs = room (c .before .before)
+
+sub-t : tie.Need-sub-t Inv-loop μ-loop
+sub-t c = search needs
+
+part-t-start : tie.Need-part-t-start Inv-loop μ-loop
+part-t-start c = search needs
+
+part-t-end : tie.Need-part-t-end Inv-loop μ-loop
+part-t-end c = search needs
+
+loop-less : tie.Need-loop-less Inv-loop μ-loop
+loop-less c = omega (arith, after-length (c .before .before .before .before .before .before .before .loop .t .now) (some (c .before .before .before .before .before .before)))
+
+loop-again : tie.Need-loop-again Inv-loop μ-loop
+loop-again c =
+    let l = c .before .before .before .before .before .before .before .loop in
+    writing-next _ _ _ _ _ _ (l .inv) _ _ _ _ (sizes-more (l .t .now) _ (some (c .before .before .before .before .before .before)) (c .before .before .before .before .before .size-at .ensures)) (c .before .before .before .put-word .ensures)
+
+same-length : tie.Need-same-length Inv-loop μ-loop
+same-length c = writing-length _ _ _ _ _ _ (c .before .loop .inv)
+
+returns : tie.Need-returns Inv-loop μ-loop
+returns c = writing-end _ _ _ _ _ _ (c .before .loop .inv) (sizes-none _ (c .loop-test .left))
+
+pub put-sizes-spec : {M : Type 1} → statement M
+put-sizes-spec =
+    tie.close
+    (tie.spec
+    Inv-loop
+    μ-loop
+    loop-holds
+    size-at-requires
+    put-word-requires
+    sub-t
+    part-t-start
+    part-t-end
+    loop-less
+    loop-again
+    same-length
+    returns)

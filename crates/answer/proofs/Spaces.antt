@@ -1,7 +1,9 @@
 -- A call that writes, by what it is to write.
 --   written-one                 the answer determines `Written`
 --   fitting-in, fitting-out     what fits, and what does not
+--   fitting-is                  what was found to fit
 --   Told, told-refused, told-written      what is answered and left, by what was to be written
+--   told-count, told-all        and the other way round
 --   wrote-none, wrote-one       no store, and one
 --   wrote-append                one run of stores after another
 --   wrote-length                the space is as long as it was
@@ -12,11 +14,12 @@ use Prim.Native.Nat.{ℕ, suc, _+_, _≤_, _<_}
 use mathlib.Core.Path.{_≡_, refl, sym, ap, _∙_}
 use mathlib.Core.List.{List, [], _∷_, _++_, append-nil, append-assoc}
 use native.Mathlib.Omega.{arith}
-use lib.ListN.{length, drop, set, length-append}
-use lib.Seq.{sets, sets-eq, length-sets}
+use lib.ListN.{length, take, drop, set, length-append}
+use lib.Seq.{sets, sets-eq, length-sets, take-at}
 use borrow.Author.Tests.{lt-ltb, le-ltb}
 use Rattle.answer.specs.Answer.{Answer, answered, refused, first, unless}
 use Rattle.answer.specs.Space.{writtenIs, fitting, counted, over, laid, Wrote}
+use Rattle.answer.proofs.Answers.{unless-is}
 use Rattle.answer.specs.declared.Written.{Written}
 use Rattle.answer.specs.declared.Written.the-variants.{Count, Refused}
 
@@ -36,6 +39,10 @@ module _ {A : Type 0} (room : ℕ) (xs : List A) where
   unfolding fitting unless first
   fitting-out h = simp (lt-ltb room (length xs) h)
 
+  pub fitting-is : (ys : List A) → fitting room xs ≡ answered ys → xs ≡ ys
+  unfolding fitting
+  fitting-is ys e = let q = unless-is _ 0 (answered xs) ys e .1 in cc
+
 -- what a call answers and leaves, where a is what it is to write
 module _ {A : Type 0} (a : Answer (List A)) (old : List A) where
   abbrev pub Told : Written → List A → Type 0
@@ -54,6 +61,18 @@ module _ {A : Type 0} (a : Answer (List A)) (old : List A) where
         ap (λ (m : ℕ). answered (m ∷ [])) (w .place ∙ k),
         w .list ∙ sets-eq xs old 0 z ∙ ap (λ (j : ℕ). xs ++ drop j old) k,
       )
+
+  pub told-count : (n : ℕ) (new : List A) → Told (Count n) new → (xs : List A) × (a ≡ answered xs) × (n ≡ length xs) × (take n new ≡ xs)
+  unfolding writtenIs counted laid
+  told-count n new t = go a (t .0) (t .1)
+    where
+      go : (b : Answer (List A)) → answered (n ∷ []) ≡ counted b → new ≡ laid b old → (xs : List A) × (b ≡ answered xs) × (n ≡ length xs) × (take n new ≡ xs)
+      go (answered xs) p q = let e : n ≡ length xs = cc in (xs, refl, e, ap (take n) q ∙ take-at xs (drop (length xs) old) n (sym e))
+      go (refused k at) p q = let z : _≡_ {A = ℕ} 0 1 = cc in absurd (omega arith)
+
+  pub told-all : (xs : List A) (r : Written) (new : List A) → a ≡ answered xs → Told r new → (r ≡ Count (length xs)) × (new ≡ over xs old)
+  unfolding writtenIs counted laid
+  told-all xs r new e t = (written-one r (Count (length xs)) (t .0 ∙ ap counted e), t .1 ∙ ap (λ (b : Answer (List A)). laid b old) e)
 
 module _ {A : Type 0} where
   pub wrote-none : (l : List A) (at : ℕ) → Wrote l at [] l at

@@ -1,6 +1,7 @@
 -- What an answer of `check` says of the bytes.
 --   check-long, check-bad, check-whole      what is answered, by the book's length and its header
 --   checked-one          the answer determines `Checked`
+--   check-one            and so the contract of `check` does
 --   check-refused        a refusal is the reading's
 --   Accepted, check-book      a book is accepted, and its numbers are the answer's
 -- Assumes nothing.
@@ -46,6 +47,10 @@ module _ (s : List ℕ) where
         (sym
         (ap (λ (a : Answer Book). andThen a (λ b. answered (numbersOf b))) (reading-fields s short right)
         ∙ then-then (fields (variablesOf s) (groupsOf s) mostClauses 7 (drop 7 s)) (withClauses (variablesOf s) (groupsOf s)) (λ b. answered (numbersOf b))))
+
+-- the contract of `check` determines its answer
+pub check-one : (s : List ℕ) (r r′ : Checked) → checkedIs r ≡ checking s → checkedIs r′ ≡ checking s → r ≡ r′
+check-one s r r′ p q = checked-one r r′ (p ∙ sym q)
 
 refused-is : (a : Answer Book) (n at : ℕ) → refused n at ≡ andThen a (λ b. answered (numbersOf b)) → a ≡ refused n at
 unfolding andThen

@@ -9,13 +9,16 @@ ghost use Rattle.book.specs.Reading.{startTests, shapeTests, numberTests
 ghost use Rattle.book.specs.Check.{checkedIs, checking};
 ghost use Rattle.book.specs.Walk.{frontOf};
 
-const MOST_BYTES: usize = 65535;
+// The limits.
+pub const MOST_BYTES: usize = 65535;
 
-const MOST_VARIABLES: u16 = 1024;
+pub const MOST_VARIABLES: u16 = 1024;
 
-const MOST_GROUPS: u16 = 32;
+pub const MOST_GROUPS: u16 = 32;
 
-const MOST_CLAUSES: u16 = 2048;
+pub const MOST_CLAUSES: u16 = 2048;
+
+pub const MOST_BODY: u16 = 32;
 
 // What checking a book answers.
 pub enum Checked {

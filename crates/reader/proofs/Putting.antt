@@ -16,7 +16,7 @@ use Rattle.field.specs.Words.{wordAt, words}
 use Rattle.field.proofs.Words.{spelt, words-none}
 use Rattle.signed.specs.Signed.{signOf}
 use Rattle.plain.specs.Plain.{minus, each, headLiteral, plainClause}
-use Rattle.reader.specs.Reads.{clauseFrom}
+use Rattle.meaning.specs.Book.{clauseFrom}
 
 -- one turn of writing a part's numbers: w is the first of t
 module _ (sign : ℕ → ℤ) (t : List ℕ) where

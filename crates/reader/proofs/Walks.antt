@@ -15,13 +15,12 @@ use Rattle.answer.proofs.Spaces.{Writing, writing-room, writing-end, writing-ne
 use Rattle.field.specs.Words.{words}
 use Rattle.field.proofs.Words.{length-words}
 use Rattle.field.proofs.Parts.{part-length}
-use Rattle.meaning.specs.Book.{Clause}
+use Rattle.meaning.specs.Book.{Clause, clauseFrom}
 use Rattle.book.specs.Walk.{frontOf}
 use Rattle.book.specs.declared.Front.the-variants as Front·v
 use Rattle.book.proofs.Walk.{Walk, Turn, walk-over}
 use Rattle.plain.specs.Plain.{headLiteral, plainClause, plainClauses}
 use Rattle.plain.proofs.Given.{clause-numbers}
-use Rattle.reader.specs.Reads.{clauseFrom}
 
 -- at most one number is a head
 head-length : (h : ℕ) → length (headLiteral h) ≤ 1

@@ -21,16 +21,16 @@ use Rattle.field.specs.Field.{fieldBytes}
 use Rattle.field.proofs.Parts.{part-end}
 use Rattle.field.proofs.Words.{within-one, within-cons, length-wordBytes, wordBytes-append}
 use Rattle.field.proofs.Fields.{field-front}
-use Rattle.meaning.specs.Book.{Clause, Book}
+use Rattle.meaning.specs.Book.{Clause, clauseFrom, Book}
 use Rattle.book.specs.Bytes.{GoodClause, GoodClauses, WellFormed, clauseBytes, clausesBytes}
 use Rattle.book.proofs.Sizes.{clause-length}
 use Rattle.plain.specs.Plain.{minus, each, literals, headLiteral, plainClause, plainClauses, plainOf}
 use Rattle.plain.specs.Taking.{Ended, literalsAt, taking}
 use Rattle.plain.proofs.Given.{length-each, clause-numbers, plain-one, body-taken}
 use Rattle.plain.proofs.Back.{Place, place-more, literals-back, taking-back}
-use Rattle.writer.specs.Steps.{scanOf, bookFrom, IsPlain, sizes, clauseFrom}
+use Rattle.writer.specs.Steps.{scanOf, bookFrom, IsPlain, sizes}
 use Rattle.writer.specs.declared.Scan.the-variants as Scan·v
-use Rattle.writer.proofs.Firsts.{after, cut}
+use Rattle.writer.proofs.Firsts.{tail, cut}
 use Rattle.writer.proofs.Passing.{scan-closed}
 
 pub length-sizes : (xs : List ℤ) → length (sizes xs) ≡ length xs
@@ -43,7 +43,7 @@ unfolding sizes wordBytes
 sizes-none [] h = refl
 sizes-none (x ∷ t) h = absurd (omega arith)
 
-pub sizes-more : (t : List ℤ) (w : ℕ) → (length t ≡ 0 → ⊥) → w ≡ natAbs (getD t 0 (pos 0)) % 65536 → wordBytes (sizes t) ≡ wordBytes (w ∷ []) ++ wordBytes (sizes (after t))
+pub sizes-more : (t : List ℤ) (w : ℕ) → (length t ≡ 0 → ⊥) → w ≡ natAbs (getD t 0 (pos 0)) % 65536 → wordBytes (sizes t) ≡ wordBytes (w ∷ []) ++ wordBytes (sizes (tail t))
 unfolding sizes wordBytes
 sizes-more t w some is = ap (λ (l : List ℤ). wordBytes (sizes l)) (cut t some) ∙ simp (← is)
 
@@ -162,7 +162,7 @@ module _ (v g : ℕ) (vs : v ≤ 1024) (gs : g ≤ 65535) (i : ℕ) (d : Clause)
 
 -- where a clause is left, and the scan of its literals found h, c and j
 copy-of : (v g : ℕ) → v ≤ 1024 → g ≤ 65535 → (t : List ℤ) (i : ℕ) (left : List Clause) → plainClauses left ≡ t → GoodClauses v g left → (length t ≡ 0 → ⊥)
-    → (h c j : ℕ) → Scan·v.Closed h c j ≡ scanOf 0 (literalsAt v 0 0 0 (i + 1) (after t)) → Copy v g t i left h c j
+    → (h c j : ℕ) → Scan·v.Closed h c j ≡ scanOf 0 (literalsAt v 0 0 0 (i + 1) (tail t)) → Copy v g t i left h c j
 unfolding plainClauses
 copy-of v g vs gs t i [] same good some h c j s = absurd (some (ap length (sym same)))
 copy-of v g vs gs t i (d ∷ ds) same good some h c j s = go (d .groups) refl
@@ -172,26 +172,26 @@ copy-of v g vs gs t i (d ∷ ds) same good some h c j s = go (d .groups) refl
     go (n ∷ (m ∷ ns)) e = absurd (omega (arith, ap length e, good .0 .one))
     go (n ∷ []) e =
         let is : pos n ∷ u v g vs gs i d ds (good .0) n e ≡ t = sym (plain-one d n (plainClauses ds) e) ∙ same in
-        let tail : after t ≡ u v g vs gs i d ds (good .0) n e = ap after (sym is) ∙ part-end (pos n ∷ u v g vs gs i d ds (good .0) n e) 1 in
-        let f = scan-closed (literalsAt v 0 0 0 (i + 1) (after t)) h c j s in
-        simp (← is) (copy-one v g vs gs i d ds (good .0) n e h c j (f .0) (ap (literalsAt v 0 0 0 (i + 1)) (sym tail) ∙ f .1) (f .2) (f .3) (f .4))
+        let cut-off : tail t ≡ u v g vs gs i d ds (good .0) n e = ap tail (sym is) ∙ part-end (pos n ∷ u v g vs gs i d ds (good .0) n e) 1 in
+        let f = scan-closed (literalsAt v 0 0 0 (i + 1) (tail t)) h c j s in
+        simp (← is) (copy-one v g vs gs i d ds (good .0) n e h c j (f .0) (ap (literalsAt v 0 0 0 (i + 1)) (sym cut-off) ∙ f .1) (f .2) (f .3) (f .4))
 
 -- so a scan never finds anything wrong
 closed-of : (v g : ℕ) (t : List ℤ) (i : ℕ) (left : List Clause) → plainClauses left ≡ t → GoodClauses v g left → (length t ≡ 0 → ⊥)
-    → (e : Ended) × (literalsAt v 0 0 0 (i + 1) (after t) ≡ answered e)
+    → (e : Ended) × (literalsAt v 0 0 0 (i + 1) (tail t) ≡ answered e)
 unfolding plainClauses
 closed-of v g t i [] same good some = absurd (some (ap length (sym same)))
 closed-of v g t i (d ∷ ds) same good some = go (d .groups) refl
   where
-    go : (ns : List ℕ) → d .groups ≡ ns → (e : Ended) × (literalsAt v 0 0 0 (i + 1) (after t) ≡ answered e)
+    go : (ns : List ℕ) → d .groups ≡ ns → (e : Ended) × (literalsAt v 0 0 0 (i + 1) (tail t) ≡ answered e)
     go [] e = absurd (omega (arith, ap length e, good .0 .one))
     go (n ∷ (m ∷ ns)) e = absurd (omega (arith, ap length e, good .0 .one))
     go (n ∷ []) e =
         let x : List ℤ = literals (d .body) ++ (headLiteral (d .head) ++ (pos 0 ∷ plainClauses ds)) in
         let is : t ≡ pos n ∷ x = sym same ∙ plain-one d n (plainClauses ds) e in
-        let tail : after t ≡ x = ap after is ∙ part-end (pos n ∷ x) 1 in
+        let cut-off : tail t ≡ x = ap tail is ∙ part-end (pos n ∷ x) 1 in
         let f = scan-one v g i d n (plainClauses ds) (good .0) e in
-        (f .0, ap (literalsAt v 0 0 0 (i + 1)) tail ∙ f .1)
+        (f .0, ap (literalsAt v 0 0 0 (i + 1)) cut-off ∙ f .1)
 
 none-left : (cs : List Clause) → length (plainClauses cs) ≤ 0 → cs ≡ []
 unfolding plainClauses
@@ -199,7 +199,7 @@ none-left [] h = refl
 none-left (c ∷ cs) h = absurd (omega (arith, length-append (plainClause c) (plainClauses cs), clause-numbers c))
 
 module _ (v g : ℕ) (all : List Clause) (size : ℕ) (out₀ out : List ℕ) (t : List ℤ) (i at : ℕ) (p : Copying v g all size out₀ out t i at) where
-  module _ (some : length t ≡ 0 → ⊥) (h c j : ℕ) (s : Scan·v.Closed h c j ≡ scanOf 0 (literalsAt v 0 0 0 (i + 1) (after t))) where
+  module _ (some : length t ≡ 0 → ⊥) (h c j : ℕ) (s : Scan·v.Closed h c j ≡ scanOf 0 (literalsAt v 0 0 0 (i + 1) (tail t))) where
     pub copy : Copy v g t i (p .left) h c j
     copy = copy-of v g (p .variables) (p .groups) t i (p .left) (p .same) (p .good) some h c j s
 
@@ -238,7 +238,7 @@ module _ (v g : ℕ) (all : List Clause) (size : ℕ) (out₀ out : List ℕ) (t
         later-good v g [] good d ds e = let z : _≡_ {A = ℕ} 0 1 = cc in absurd (omega arith)
         later-good v g (c ∷ cs) good d ds e = let q : cs ≡ ds = cc in simp (← q) (good .1)
 
-  pub copy-none : (length t ≡ 0 → ⊥) → (n q : ℕ) → Scan·v.Wrong n q ≡ scanOf 0 (literalsAt v 0 0 0 (i + 1) (after t)) → ⊥
+  pub copy-none : (length t ≡ 0 → ⊥) → (n q : ℕ) → Scan·v.Wrong n q ≡ scanOf 0 (literalsAt v 0 0 0 (i + 1) (tail t)) → ⊥
   unfolding scanOf
   copy-none some n q s =
       let e = closed-of v g t i (p .left) (p .same) (p .good) some in

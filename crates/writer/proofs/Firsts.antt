@@ -1,6 +1,6 @@
 -- The first of some numbers, and those after it.
---   after t                   the numbers after the first
---   cut, after-length         where there is a first
+--   tail t                   the numbers after the first
+--   cut, tail-length         where there is a first
 --   number-bad, number-ok     a number that is to be within limits, by what is wrong with it
 --   between-..                whether it is, by its sign
 -- Assumes nothing.
@@ -20,15 +20,15 @@ use Rattle.signed.specs.declared.Signed.the-variants as Signed·v
 use Rattle.signed.proofs.Split.{is-plus, is-minus}
 use Rattle.plain.specs.Taking.{between, numberAt}
 
-abbrev pub after : List ℤ → List ℤ
-after t = take (length t - 1) (drop 1 t)
+abbrev pub tail : List ℤ → List ℤ
+tail t = take (length t - 1) (drop 1 t)
 
-pub cut : (t : List ℤ) → (length t ≡ 0 → ⊥) → t ≡ getD t 0 (pos 0) ∷ after t
+pub cut : (t : List ℤ) → (length t ≡ 0 → ⊥) → t ≡ getD t 0 (pos 0) ∷ tail t
 cut [] h = absurd (h refl)
 cut (x ∷ t) h = ap (λ (l : List ℤ). x ∷ l) (sym (part-end (x ∷ t) 1))
 
-pub after-length : (t : List ℤ) → (length t ≡ 0 → ⊥) → length t ≡ 1 + length (after t)
-after-length t h = ap length (cut t h) ∙ omega arith
+pub tail-length : (t : List ℤ) → (length t ≡ 0 → ⊥) → length t ≡ 1 + length (tail t)
+tail-length t h = ap length (cut t h) ∙ omega arith
 
 -- the test of a number's limits
 abbrev pub wrong : ℕ → ℕ → ℤ → ℕ

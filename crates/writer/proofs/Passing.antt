@@ -14,17 +14,17 @@ use borrow.Author.Tests.{eq-eqb, ne-eqb}
 use Rattle.answer.specs.Answer.{Answer, answered, refused, andThen, first}
 use Rattle.answer.proofs.Answers.{then-by, then-not, unless-none, unless-some}
 use Rattle.field.proofs.Parts.{part-end}
-use Rattle.meaning.specs.Book.{Clause, Book}
+use Rattle.meaning.specs.Book.{Clause, clauseFrom, Book}
 use Rattle.book.specs.Bytes.{mostVariables, mostGroups}
 use Rattle.book.specs.Reading.{withClauses}
 use Rattle.book.proofs.Sizes.{clause-length, fieldsLength, book-length}
 use Rattle.plain.specs.Taking.{numberAt, named, groupsAt, Ended, literalsAt, starting, clausesAt, afterVariables, taking}
 use Rattle.plain.proofs.Back.{number-is, Place, place-more, Closed, literals-back}
-use Rattle.writer.specs.Steps.{scanOf, takenOf, clauseFrom}
+use Rattle.writer.specs.Steps.{scanOf, takenOf}
 use Rattle.writer.specs.declared.Scan.the-variants as Scan·v
 use Rattle.writer.specs.declared.Taken.{Taken}
 use Rattle.writer.specs.declared.Taken.the-variants as Taken·v
-use Rattle.writer.proofs.Firsts.{after, cut, after-length, wrong, number-bad, number-ok}
+use Rattle.writer.proofs.Firsts.{tail, cut, tail-length, wrong, number-bad, number-ok}
 
 -- the clauses of t, by the first number of t
 module _ (v g i : ℕ) (t : List ℤ) where
@@ -47,7 +47,7 @@ module _ (v g i : ℕ) (t : List ℤ) where
     clauses-full (suc left) e = absurd (omega arith)
 
     module _ (left n : ℕ) (is : n ≡ wrong 0 g x) where
-      groups-on : groupsAt g (suc left) i x (after t) ≡ andThen (numberAt 0 g i x) (λ n. named (n ∷ []) (i + 1) (after t))
+      groups-on : groupsAt g (suc left) i x (tail t) ≡ andThen (numberAt 0 g i x) (λ n. named (n ∷ []) (i + 1) (tail t))
       unfolding groupsAt first
       groups-on = let z : suc left ≡ 0 → ⊥ = λ e. omega arith in simp (ne-eqb (suc left) 0 z) (unless-none 0 i _ refl)
 
@@ -57,7 +57,7 @@ module _ (v g i : ℕ) (t : List ℤ) where
           ap (clausesAt v g (suc left) i) (cut t some) ∙ then-not _ n i _ (groups-on ∙ then-not _ n i _ (number-bad 0 g i x n is h))
 
       clauses-on : n ≡ 0 → clausesAt v g (suc left) i t
-          ≡ andThen (literalsAt v 0 0 0 (i + 1) (after t)) (λ e. andThen (clausesAt v g left (e .next) (e .rest)) (λ cs. answered (clauseFrom (natAbs x ∷ []) (e .head) (e .body) ∷ cs)))
+          ≡ andThen (literalsAt v 0 0 0 (i + 1) (tail t)) (λ e. andThen (clausesAt v g left (e .next) (e .rest)) (λ cs. answered (clauseFrom (natAbs x ∷ []) (e .head) (e .body) ∷ cs)))
       unfolding clausesAt starting
       clauses-on h =
           ap (clausesAt v g (suc left) i) (cut t some) ∙ then-by _ _ _ (groups-on ∙ then-by _ (natAbs x) _ (number-ok 0 g i x n is h))
@@ -119,12 +119,12 @@ module _ (v g : ℕ) (all t : List ℤ) (i : ℕ) (some : length t ≡ 0 → ⊥
   passing-bad zero room p h = absurd (room refl)
   passing-bad (suc left) room p h = sym (p .answer ∙ ap (takenFrom v g n) (clauses-bad v g i t some left k is h))
 
-  pub passing-wrong : (left : ℕ) → (left ≡ 0 → ⊥) → Passing v g all t i left n → k ≡ 0 → (m q : ℕ) → Scan·v.Wrong m q ≡ scanOf 0 (literalsAt v 0 0 0 (i + 1) (after t))
+  pub passing-wrong : (left : ℕ) → (left ≡ 0 → ⊥) → Passing v g all t i left n → k ≡ 0 → (m q : ℕ) → Scan·v.Wrong m q ≡ scanOf 0 (literalsAt v 0 0 0 (i + 1) (tail t))
       → Taken·v.Refused m q ≡ answerOf v g all
   unfolding takenFrom
   passing-wrong zero room p ok m q s = absurd (room refl)
   passing-wrong (suc left) room p ok m q s =
-      sym (p .answer ∙ ap (takenFrom v g n) (clauses-on v g i t some left k is ok ∙ then-not _ m q _ (scan-wrong 0 (literalsAt v 0 0 0 (i + 1) (after t)) m q s)))
+      sym (p .answer ∙ ap (takenFrom v g n) (clauses-on v g i t some left k is ok ∙ then-not _ m q _ (scan-wrong 0 (literalsAt v 0 0 0 (i + 1) (tail t)) m q s)))
 
   -- a clause was closed
   pub record Next (left c j : ℕ) : Type 0 where
@@ -133,17 +133,17 @@ module _ (v g : ℕ) (all t : List ℤ) (i : ℕ) (some : length t ≡ 0 → ⊥
     pub few : c ≤ 32
     pub next : Passing v g all (take (length t - (j - i)) (drop (j - i) t)) j (left - 1) (n + (7 + 2 * c))
 
-  pub passing-next : (left : ℕ) → (left ≡ 0 → ⊥) → Passing v g all t i left n → k ≡ 0 → (h c j : ℕ) → Scan·v.Closed h c j ≡ scanOf 0 (literalsAt v 0 0 0 (i + 1) (after t)) → Next left c j
+  pub passing-next : (left : ℕ) → (left ≡ 0 → ⊥) → Passing v g all t i left n → k ≡ 0 → (h c j : ℕ) → Scan·v.Closed h c j ≡ scanOf 0 (literalsAt v 0 0 0 (i + 1) (tail t)) → Next left c j
   unfolding fieldsLength
   passing-next zero room p ok h c j s = absurd (room refl)
   passing-next (suc left) room p ok h c j s =
       let x = getD t 0 (pos 0) in
-      let e = scan-closed (literalsAt v 0 0 0 (i + 1) (after t)) h c j s in
-      let b = literals-back v 0 0 (i + 1) (after t) (e .0) (omega arith) (e .1) in
-      let a : Place i (x ∷ after t) (e .0 .next) (e .0 .rest) = place-more i x (after t) (e .0 .next) (e .0 .rest) (b .place) in
+      let e = scan-closed (literalsAt v 0 0 0 (i + 1) (tail t)) h c j s in
+      let b = literals-back v 0 0 (i + 1) (tail t) (e .0) (omega arith) (e .1) in
+      let a : Place i (x ∷ tail t) (e .0 .next) (e .0 .rest) = place-more i x (tail t) (e .0 .next) (e .0 .rest) (b .place) in
       let d : Clause = clauseFrom (natAbs x ∷ []) (e .0 .head) (e .0 .body) in
-      let rest : drop (j - i) t ≡ e .0 .rest = ap (drop (j - i)) (cut t some) ∙ ap (λ (m : ℕ). drop (m - i) (x ∷ after t)) (e .4) ∙ a .rest in
-      let long = after-length t some in
+      let rest : drop (j - i) t ≡ e .0 .rest = ap (drop (j - i)) (cut t some) ∙ ap (λ (m : ℕ). drop (m - i) (x ∷ tail t)) (e .4) ∙ a .rest in
+      let long = tail-length t some in
       let inside : j ≤ i + length t = omega (arith, a .inside, e .4) in
       let end = part-end t (j - i) in
       let one : suc left - 1 ≡ left = omega arith in
@@ -182,20 +182,20 @@ module _ (s : List ℤ) where
     take-variables h = sym (ap takenOf (ap taking (cut s some) ∙ then-not _ n 0 _ (number-bad 1 mostVariables 0 (getD s 0 (pos 0)) n is h)))
 
     module _ (ok : n ≡ 0) where
-      on : taking s ≡ afterVariables (natAbs (getD s 0 (pos 0))) (after s)
+      on : taking s ≡ afterVariables (natAbs (getD s 0 (pos 0))) (tail s)
       unfolding taking
       on = ap taking (cut s some) ∙ then-by _ _ _ (number-ok 1 mostVariables 0 (getD s 0 (pos 0)) n is ok)
 
       pub take-one : length s ≡ 1 → Taken·v.Refused 12 1 ≡ takenOf (taking s)
       unfolding takenOf afterVariables
-      take-one e = sym (ap takenOf (on ∙ go (after s) (omega (arith, after-length s some))))
+      take-one e = sym (ap takenOf (on ∙ go (tail s) (omega (arith, tail-length s some))))
         where
           go : (u : List ℤ) → length u ≡ 0 → afterVariables (natAbs (getD s 0 (pos 0))) u ≡ refused 12 1
           go [] e = refl
           go (x ∷ u) e = absurd (omega arith)
 
       module _ (more : length s ≡ 1 → ⊥) (m : ℕ) (is′ : m ≡ wrong 0 mostGroups (getD s 1 (pos 0))) where
-        second : (v : ℕ) → afterVariables v (after s) ≡ andThen (numberAt 0 mostGroups 1 (getD s 1 (pos 0))) (λ g. andThen (clausesAt v g 2048 2 (drop 2 s)) (withClauses v g))
+        second : (v : ℕ) → afterVariables v (tail s) ≡ andThen (numberAt 0 mostGroups 1 (getD s 1 (pos 0))) (λ g. andThen (clausesAt v g 2048 2 (drop 2 s)) (withClauses v g))
         unfolding afterVariables
         second v = ap (afterVariables v) (part-end s 1) ∙ go s some more
           where

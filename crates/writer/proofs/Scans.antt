@@ -20,7 +20,7 @@ use Rattle.plain.specs.Taking.{headTests, bodyTests, Ended, ended, literalsAt}
 use Rattle.writer.specs.Steps.{scanOf}
 use Rattle.writer.specs.declared.Scan.{Scan}
 use Rattle.writer.specs.declared.Scan.the-variants as Scan·v
-use Rattle.writer.proofs.Firsts.{after, cut, after-length}
+use Rattle.writer.proofs.Firsts.{tail, cut, tail-length}
 
 -- the literals of t, by the first of them
 module _ (v h last count i : ℕ) (t : List ℤ) where
@@ -33,29 +33,29 @@ module _ (v h last count i : ℕ) (t : List ℤ) where
       go (x ∷ u) e = absurd (omega arith)
 
   module _ (some : length t ≡ 0 → ⊥) (n : ℕ) where
-    literals-plus : signedOf (getD t 0 (pos 0)) ≡ Signed·v.Plus n → literalsAt v h last count i t ≡ literalsAt v h last count i (pos n ∷ after t)
-    literals-plus e = ap (literalsAt v h last count i) (cut t some ∙ ap (λ (x : ℤ). x ∷ after t) (is-plus (getD t 0 (pos 0)) n e))
+    literals-plus : signedOf (getD t 0 (pos 0)) ≡ Signed·v.Plus n → literalsAt v h last count i t ≡ literalsAt v h last count i (pos n ∷ tail t)
+    literals-plus e = ap (literalsAt v h last count i) (cut t some ∙ ap (λ (x : ℤ). x ∷ tail t) (is-plus (getD t 0 (pos 0)) n e))
 
-    literals-zero : signedOf (getD t 0 (pos 0)) ≡ Signed·v.Plus n → n ≡ 0 → literalsAt v h last count i t ≡ ended h [] (i + 1) (after t)
+    literals-zero : signedOf (getD t 0 (pos 0)) ≡ Signed·v.Plus n → n ≡ 0 → literalsAt v h last count i t ≡ ended h [] (i + 1) (tail t)
     unfolding literalsAt
-    literals-zero e z = literals-plus e ∙ ap (λ (k : ℕ). literalsAt v h last count i (pos k ∷ after t)) z
+    literals-zero e z = literals-plus e ∙ ap (λ (k : ℕ). literalsAt v h last count i (pos k ∷ tail t)) z
 
     literals-head : signedOf (getD t 0 (pos 0)) ≡ Signed·v.Plus n → (n ≡ 0 → ⊥)
-        → literalsAt v h last count i t ≡ unless (first (headTests v h n)) i (literalsAt v n last count (i + 1) (after t))
+        → literalsAt v h last count i t ≡ unless (first (headTests v h n)) i (literalsAt v n last count (i + 1) (tail t))
     unfolding literalsAt
     literals-head e z = literals-plus e ∙ go n z
       where
-        go : (m : ℕ) → (m ≡ 0 → ⊥) → literalsAt v h last count i (pos m ∷ after t) ≡ unless (first (headTests v h m)) i (literalsAt v m last count (i + 1) (after t))
+        go : (m : ℕ) → (m ≡ 0 → ⊥) → literalsAt v h last count i (pos m ∷ tail t) ≡ unless (first (headTests v h m)) i (literalsAt v m last count (i + 1) (tail t))
         go zero z = absurd (z refl)
         go (suc m) z = refl
 
     literals-body : signedOf (getD t 0 (pos 0)) ≡ Signed·v.Minus n
         → literalsAt v h last count i t
-        ≡ unless (first (bodyTests v h last count n)) i (andThen (literalsAt v h n (count + 1) (i + 1) (after t)) (λ e. ended (e .head) (n ∷ e .body) (e .next) (e .rest)))
+        ≡ unless (first (bodyTests v h last count n)) i (andThen (literalsAt v h n (count + 1) (i + 1) (tail t)) (λ e. ended (e .head) (n ∷ e .body) (e .next) (e .rest)))
     unfolding literalsAt
     literals-body e =
         let m = is-minus (getD t 0 (pos 0)) n e in
-        ap (literalsAt v h last count i) (cut t some ∙ ap (λ (x : ℤ). x ∷ after t) (m .1)) ∙ simp (m .2)
+        ap (literalsAt v h last count i) (cut t some ∙ ap (λ (x : ℤ). x ∷ tail t) (m .1)) ∙ simp (m .2)
 
 scan-cons : (n count : ℕ) (a : Answer Ended) → scanOf count (andThen a (λ e. ended (e .head) (n ∷ e .body) (e .next) (e .rest))) ≡ scanOf (count + 1) a
 unfolding scanOf andThen
@@ -97,12 +97,12 @@ module _ (v at : ℕ) (s t : List ℤ) (h last count i : ℕ) (p : Scanning v at
         unfolding scanOf
         scanning-bad-head b = sym (p .answer ∙ ap (scanOf count) (literals-head v h last count i t some n e z ∙ unless-some k _ i _ is b))
 
-        pub scanning-head : k ≡ 0 → Scanning v at s (after t) n last count (i + 1)
+        pub scanning-head : k ≡ 0 → Scanning v at s (tail t) n last count (i + 1)
         scanning-head b =
             record {
               answer = p .answer ∙ ap (scanOf count) (literals-head v h last count i t some n e z ∙ unless-none (first (headTests v h n)) i _ (sym is ∙ b));
               few = p .few;
-              place = omega (arith, p .place, after-length t some);
+              place = omega (arith, p .place, tail-length t some);
             }
 
     module _ (e : signedOf (getD t 0 (pos 0)) ≡ Signed·v.Minus n) (k : ℕ) (is : k ≡ first (bodyTests v h last count n)) where
@@ -110,13 +110,13 @@ module _ (v at : ℕ) (s t : List ℤ) (h last count i : ℕ) (p : Scanning v at
       unfolding scanOf
       scanning-bad-body b = sym (p .answer ∙ ap (scanOf count) (literals-body v h last count i t some n e ∙ unless-some k _ i _ is b))
 
-      pub scanning-body : k ≡ 0 → Scanning v at s (after t) h n (count + 1) (i + 1)
+      pub scanning-body : k ≡ 0 → Scanning v at s (tail t) h n (count + 1) (i + 1)
       scanning-body b =
           let most = body-most v h last count n (sym is ∙ b) in
           record {
             answer = p .answer
                 ∙ ap (scanOf count) (literals-body v h last count i t some n e ∙ unless-none (first (bodyTests v h last count n)) i _ (sym is ∙ b))
-                ∙ scan-cons n count (literalsAt v h n (count + 1) (i + 1) (after t));
+                ∙ scan-cons n count (literalsAt v h n (count + 1) (i + 1) (tail t));
             few = omega (arith, p .few, most .1);
-            place = omega (arith, p .place, after-length t some);
+            place = omega (arith, p .place, tail-length t some);
           }

@@ -4,7 +4,6 @@
 --   bookFrom xs       the book that a plain form is; one with nothing in it where it is refused
 --   IsPlain xs        the plain form is taken
 --   sizes xs          numbers without their signs, as far as two bytes hold them
---   clauseFrom gs h ws    the clause of some groups, a head and a body
 -- Assumes nothing: these are definitions.
 use Prim.Native.Nat.{ℕ, _+_, _%_}
 use mathlib.Core.Path.{_≡_}
@@ -12,7 +11,7 @@ use mathlib.Core.List.{List, [], _∷_}
 use lib.IntN.{ℤ, natAbs}
 use lib.ListN.{length}
 use Rattle.answer.specs.Answer.{Answer, answered, refused}
-use Rattle.meaning.specs.Book.{Clause, Book}
+use Rattle.meaning.specs.Book.{Book}
 use Rattle.book.specs.Bytes.{bytesOf}
 use Rattle.book.specs.Walk.{taken}
 use Rattle.plain.specs.Taking.{Ended, taking}
@@ -38,6 +37,3 @@ IsPlain xs = taking xs ≡ answered (bookFrom xs)
 unfoldable pub sizes : List ℤ → List ℕ
 sizes [] = []
 sizes (x ∷ xs) = natAbs x % 65536 ∷ sizes xs
-
-abbrev pub clauseFrom : List ℕ → ℕ → List ℕ → Clause
-clauseFrom gs h ws = record { groups = gs; head = h; body = ws }

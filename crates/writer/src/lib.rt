@@ -10,23 +10,19 @@ ghost use Rattle.answer.specs.Answer.{andThen, _⇒_, first};
 ghost use Rattle.answer.specs.Space.{writtenIs, counted, laid, Wrote};
 ghost use Rattle.field.specs.Words.{wordBytes};
 ghost use Rattle.field.specs.Field.{fieldBytes};
+ghost use Rattle.meaning.specs.Book.{clauseFrom};
 ghost use Rattle.book.specs.Bytes.{clauseBytes, clausesBytes};
 ghost use Rattle.book.specs.Reading.{withClauses};
 ghost use Rattle.plain.specs.Taking.{between, headTests, bodyTests, literalsAt, clausesAt, taking};
 ghost use Rattle.writer.specs.Writes.{writes};
-ghost use Rattle.writer.specs.Steps.{scanOf, takenOf, bookFrom, IsPlain, sizes, clauseFrom};
+ghost use Rattle.writer.specs.Steps.{scanOf, takenOf, bookFrom, IsPlain, sizes};
 use answer::Written;
+use book::MOST_BODY;
+use book::MOST_BYTES;
+use book::MOST_CLAUSES;
+use book::MOST_GROUPS;
+use book::MOST_VARIABLES;
 use signed::Signed;
-
-const MOST_BYTES: usize = 65535;
-
-const MOST_VARIABLES: u16 = 1024;
-
-const MOST_GROUPS: u16 = 32;
-
-const MOST_CLAUSES: u16 = 2048;
-
-const MOST_BODY: u16 = 32;
 
 // What is wrong with a positive literal n, after the head `head` (0 for none), by number; 0 if nothing is. The same below.
 pub fn wrong_head(n: u32, variables: u16, head: u16) -> u8

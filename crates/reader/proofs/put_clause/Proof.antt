@@ -11,7 +11,7 @@ use mathlib.Core.Bool.{true, false}
 use Rattle.plain.specs.Plain.{headLiteral}
 use Rattle.answer.proofs.Spaces.{wrote-length}
 use Rattle.plain.proofs.Given.{length-each, clause-numbers}
-use Rattle.reader.specs.Reads.{clauseFrom}
+use Rattle.meaning.specs.Book.{clauseFrom}
 use Rattle.reader.proofs.Putting.{clause-wrote}
 use borrow.Author.Needs.{needs}
 use Rattle.reader.proofs.put_clause.Statement.{statement}

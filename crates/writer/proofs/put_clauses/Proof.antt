@@ -11,7 +11,7 @@ use Rattle.field.proofs.Parts.{part-shorter, part-length}
 use Rattle.writer.specs.Steps.{bookFrom}
 use Rattle.book.specs.Bytes.{clausesBytes}
 use Rattle.answer.proofs.Spaces.{writing-length, writing-room}
-use Rattle.writer.proofs.Firsts.{after, after-length}
+use Rattle.writer.proofs.Firsts.{tail, tail-length}
 use Rattle.writer.proofs.Copying.{Copying, Copy, copy, copy-none, copy-room, copy-next, copy-last, copy-end}
 use Rattle.plain.specs.Taking.{literalsAt}
 use Rattle.writer.specs.Steps.{scanOf}
@@ -37,7 +37,7 @@ some c z = omega (arith, c .loop-test .taken)
 -- at a clause
 found : (c : tie.After-head Inv-loop μ-loop)
     → let d = c .head .given .0 in
-    Scan·v.Closed (d .0) (d .1 .0) (d .1 .1 .0) ≡ scanOf 0 (literalsAt (c .before .before .before .before .before .before .before .before .args .variables) 0 0 0 (c .before .before .before .before .before .loop .i + 1) (after (c .before .before .before .before .before .loop .t .now)))
+    Scan·v.Closed (d .0) (d .1 .0) (d .1 .1 .0) ≡ scanOf 0 (literalsAt (c .before .before .before .before .before .before .before .before .args .variables) 0 0 0 (c .before .before .before .before .before .loop .i + 1) (tail (c .before .before .before .before .before .loop .t .now)))
 found c = sym (c .head .given .1) ∙ c .before .before .scan-clause .ensures
 
 at : (c : tie.After-head Inv-loop μ-loop)
@@ -71,7 +71,7 @@ add-scan-clause : tie.Need-add-scan-clause Inv-loop μ-loop
 add-scan-clause c = omega (arith, c .before .before .loop .inv .place, c .before .before .before .before .before .good)
 
 scan-clause-requires : tie.Need-scan-clause-requires Inv-loop μ-loop
-scan-clause-requires c κs = omega (arith, c .before .before .loop .inv .place, c .before .before .before .before .before .good, after-length (c .before .before .loop .t .now) (some (c .before)))
+scan-clause-requires c κs = omega (arith, c .before .before .loop .inv .place, c .before .before .before .before .before .good, tail-length (c .before .before .loop .t .now) (some (c .before)))
 
 enum-told : tie.Need-enum-told Inv-loop μ-loop
 enum-told c = search needs

@@ -10,7 +10,7 @@ use Rattle.field.specs.Words.{wordBytes}
 use Rattle.field.proofs.Words.{length-wordBytes}
 use Rattle.answer.proofs.Spaces.{Writing, writing-start, writing-room, writing-length, writing-next, writing-end}
 use Rattle.writer.specs.Steps.{sizes}
-use Rattle.writer.proofs.Firsts.{after-length}
+use Rattle.writer.proofs.Firsts.{tail-length}
 use Rattle.writer.proofs.Copying.{length-sizes, sizes-none, sizes-more}
 use borrow.Author.Needs.{needs}
 use Rattle.writer.proofs.put_sizes.Statement.{statement}
@@ -59,7 +59,7 @@ part-t-end : tie.Need-part-t-end Inv-loop μ-loop
 part-t-end c = search needs
 
 loop-less : tie.Need-loop-less Inv-loop μ-loop
-loop-less c = omega (arith, after-length (c .before .before .before .before .before .before .before .loop .t .now) (some (c .before .before .before .before .before .before)))
+loop-less c = omega (arith, tail-length (c .before .before .before .before .before .before .before .loop .t .now) (some (c .before .before .before .before .before .before)))
 
 loop-again : tie.Need-loop-again Inv-loop μ-loop
 loop-again c =

@@ -4,7 +4,7 @@ use Prim.Native.Nat.{_≤_}
 use mathlib.Core.Path.{_≡_, sym, _∙_}
 use native.Mathlib.Omega.{arith}
 use lib.ListN.{length}
-use Rattle.writer.proofs.Firsts.{after-length}
+use Rattle.writer.proofs.Firsts.{tail-length}
 use Rattle.writer.proofs.Scans.{Scanning, scanning-start, scanning-none, scanning-zero, scanning-bad-head, scanning-head, scanning-bad-body, scanning-body, head-most, body-most}
 use borrow.Author.Needs.{needs}
 use Rattle.writer.proofs.scan_clause.Statement.{statement}
@@ -55,7 +55,7 @@ cast-head c =
     omega (arith, c .before .before .before .before .before .before .before .before .before .before .fits .variables)
 
 loop-less : tie.Need-loop-less Inv-loop μ-loop
-loop-less c = omega (arith, after-length (c .before .before .before .before .before .before .before .before .before .loop .t .now) (c .before .before .before .before .before .before .before .before .if1 .left))
+loop-less c = omega (arith, tail-length (c .before .before .before .before .before .before .before .before .before .loop .t .now) (c .before .before .before .before .before .before .before .before .if1 .left))
 
 loop-again : tie.Need-loop-again Inv-loop μ-loop
 loop-again c = scanning-head _ _ _ (c .before .before .before .before .before .before .before .before .before .loop .t .now) _ _ _ _ (c .before .before .before .before .before .before .before .before .before .loop .inv) (c .before .before .before .before .before .before .before .before .if1 .left) _ (sym (c .before .before .before .before .before .before .before .number-at .ensures) ∙ c .before .before .before .before .x .given .1) (c .before .before .if2 .left) _ (c .before .wrong-head .ensures) (c .if3 .left)
@@ -78,7 +78,7 @@ add-count : tie.Need-add-count Inv-loop μ-loop
 add-count c = omega (arith, c .before .before .before .before .before .before .before .before .loop .inv .few)
 
 loop-less-2 : tie.Need-loop-less-2 Inv-loop μ-loop
-loop-less-2 c = omega (arith, after-length (c .before .before .before .before .before .before .before .before .loop .t .now) (c .before .before .before .before .before .before .before .if1 .left))
+loop-less-2 c = omega (arith, tail-length (c .before .before .before .before .before .before .before .before .loop .t .now) (c .before .before .before .before .before .before .before .if1 .left))
 
 loop-again-2 : tie.Need-loop-again-2 Inv-loop μ-loop
 loop-again-2 c = scanning-body _ _ _ (c .before .before .before .before .before .before .before .before .loop .t .now) _ _ _ _ (c .before .before .before .before .before .before .before .before .loop .inv) (c .before .before .before .before .before .before .before .if1 .left) _ (sym (c .before .before .before .before .before .before .number-at .ensures) ∙ c .before .before .before .x2 .given .1) _ (c .before .wrong-body .ensures) (c .if4 .left)

@@ -6,7 +6,7 @@ use native.Mathlib.Omega.{arith}
 use lib.ListN.{length, getD}
 use lib.IntN.{pos}
 use Rattle.field.proofs.Parts.{part-shorter}
-use Rattle.writer.proofs.Firsts.{after-length, wrong}
+use Rattle.writer.proofs.Firsts.{tail-length, wrong}
 use Rattle.writer.proofs.Passing.{Passing, passing-start, passing-done, passing-full, passing-bad, passing-wrong, Next, passing-next}
 use borrow.Author.Needs.{needs}
 use Rattle.writer.proofs.take_clauses.Statement.{statement}
@@ -63,7 +63,7 @@ add-scan-clause : tie.Need-add-scan-clause Inv-loop μ-loop
 add-scan-clause c = omega (arith, c .before .before .before .before .before .loop .inv .place, c .before .before .before .before .before .before .before .pre .1)
 
 scan-clause-requires : tie.Need-scan-clause-requires Inv-loop μ-loop
-scan-clause-requires c κs = omega (arith, c .before .before .before .before .before .loop .inv .place, c .before .before .before .before .before .before .before .pre .1, after-length (c .before .before .before .before .before .loop .t .now) (c .before .before .before .before .if1 .left))
+scan-clause-requires c κs = omega (arith, c .before .before .before .before .before .loop .inv .place, c .before .before .before .before .before .before .before .pre .1, tail-length (c .before .before .before .before .before .loop .t .now) (c .before .before .before .before .if1 .left))
 
 enum-known-number : tie.Need-enum-known-number Inv-loop μ-loop
 enum-known-number c = search needs

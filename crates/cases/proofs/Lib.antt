@@ -1,0 +1,3 @@
+-- Document 01's cases, computed.
+pub mod BookX
+pub mod Refusals

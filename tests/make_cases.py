@@ -1,5 +1,9 @@
 """usage: make_cases.py CASES EXPECTED -- test cases for check, read and write, answered by twin.py.
 
+A case: 1 byte call (1 check, 2 read, 3 write); 4 bytes (high byte first, as all numbers) how many elements the input has; 4 bytes how many the lent
+space has; the input as runs (see `runs`), of bytes or of numbers of 4 bytes. Before the call element k of the space is (k * 7 + 3) % 251.
+Its line: the answer, and for read and write a checksum of the whole space after the call (see `checksum`).
+
 Where a case is given a wanted answer ('N@P' a refusal, 'V G C' of a check, a count of the others), that answer
 was worked out by hand from document 01 or copied from readings.md, and twin.py must agree with it.
 """
@@ -55,6 +59,33 @@ def assert_inverses(call, data):
         assert plain[:m] == list(data)
 
 
+def runs(data, width):
+    """The input as runs: how many elements (4 bytes), how many make the block (2 bytes), and the block, which is repeated."""
+    out, literal, at = bytearray(), bytearray(), 0
+
+    def emit(times, block):
+        for k in range(0, len(block), width * 60000):
+            piece = block[k:k + width * 60000]
+            out.extend((times * len(piece) // width).to_bytes(4, 'big') + (len(piece) // width).to_bytes(2, 'big') + piece)
+
+    while at < len(data):
+        size = data.find(data[at:at + 16], at + 1, at + 4000) - at if at + 32 < len(data) else 0
+        times = 1
+        if size > 0 and size % width == 0:
+            while times < 65535 and data[at + times * size:at + (times + 1) * size] == data[at:at + size]:
+                times += 1
+        if times > 1 and (times - 1) * size > 16:
+            emit(1, literal)
+            literal = bytearray()
+            emit(times, data[at:at + size])
+            at += times * size
+        else:
+            literal += data[at:at + width]
+            at += width
+    emit(1, literal)
+    return out
+
+
 def add(call, data, room, want=None):
     assert len(data) <= (80000 if call == 3 else 65600)
     assert room <= {1: 0, 2: 80000, 3: 70000}[call]
@@ -80,7 +111,10 @@ def add(call, data, room, want=None):
     if sections[-1][0] == 'h':
         tally_h[call][key] += 1
     cases.extend(bytes([call]) + len(data).to_bytes(4, 'big') + room.to_bytes(4, 'big'))
-    cases.extend(bytes(data) if call < 3 else b''.join((x % 2 ** 32).to_bytes(4, 'big') for x in data))
+    if call < 3:
+        cases.extend(runs(bytes(data), 1))
+    else:
+        cases.extend(runs(b''.join((x % 2 ** 32).to_bytes(4, 'big') for x in data), 4))
     lines.append(' '.join(str(a) for a in answer) + ('' if call == 1 else ' %d' % checksum(space)))
 
 
@@ -495,10 +529,12 @@ def long_book(total, clauses, seed):
     while sum(sizes) > left:
         sizes[k] -= 1
         k += 1
-    result = []
-    for k, size in enumerate(sizes):
-        body = sorted(rng.sample(range(1, 1025), size))
-        result.append((rng.randrange(33), body, rng.randrange(1, 1025) if k % 16 == 1 else 0))
+    result, made = [], {}
+    for k, size in enumerate(sizes):                    # a pattern of 16 clauses of each size, so that the cases stay small
+        if (size, k % 16) not in made:
+            body = sorted(rng.sample(range(1, 1025), size))
+            made[size, k % 16] = (rng.randrange(33), body, rng.randrange(1, 1025) if k % 16 == 1 else 0)
+        result.append(made[size, k % 16])
     assert len(book_of(1024, 32, result)) == total
     return 1024, 32, result
 
@@ -509,15 +545,29 @@ def section_e():
     b, p = book_of(*largest), plain_of(*largest)
     check(b, '1024 32 2047')
     read(b, len(p), len(p))
-    # 65,535 bytes written with exact room (one byte too little is left out: 119,000 bytes of cases for a plain 11)
+    # 65,535 bytes written with exact room, and with one byte too little
     write(p, 65535, 65535)
-    # 65,536 bytes, good but for that, read with enough room: 1 (its check is B1's 65,536 zeros, below)
+    write(p, 65534, '11@0')
+    # 65,536 bytes, good but for that: 1
     longer = long_book(65536, 2048, 2)
     b, p = book_of(*longer), plain_of(*longer)
+    check(b, '1@0')
     read(b, 40000, '1@0')
+    # 1 before each other refusal of a book
+    wide = hdr(1024, 32) + cl(0, 0, *range(1, 33)) * 900
+    for other in (wide + hexb('02ffff'), wide + fld(3, b'') + E, wide + hdr(3, 2) + E, wide + fld(2, bytes(2)) + E, hdr(2, 1) + cl(0, 0, 1, 2) * 2049 + E,
+                  wide + cl(33, 0) + E, wide + cl(0, 0, 2, 1) + E, wide + E + bytes(1)):
+        check(other + bytes(max(0, 65536 - len(other))), '1@0')
+        read(other + bytes(max(0, 65536 - len(other))), 0, '1@0')
     # 65,536 bytes written with enough room: 1; with none: 1 before 11 (B31)
     write(p, 70000, '1@0')
     write(p, 0, '1@0')
+    # a fault of the form comes before 1, wherever it stands
+    clause = [0] + [-v for v in range(1, 33)] + [0]
+    form = [1024, 32] + clause * 1000
+    for fault, number, where in (([33, 0], 7, 0), ([0, 1, 2, 0], 13, 2), ([0, -2, -1, 0], 8, 2), (clause[:-1] + [-33, 0], 5, 33)):
+        write(form + fault, 0, '%d@%d' % (number, len(form) + where))
+    write([1024, 32] + clause * 2048 + [33], 0, '6@%d' % (2 + 34 * 2048))
     # a form too long in its complete clauses, then a clause that lacks its 0: 12 before 1 and 11 (B31, sharper: here
     # a length tested at each number and one tested at each clause's 0 both come too early)
     cut = plain_of(*long_book(65536, 2046, 3)) + [7]

@@ -172,19 +172,102 @@ fn run_write(plain: &[i32], out: &mut [u8]) {
     end_line();
 }
 
-// The next n bytes, or numbers, into the front of a buffer.
-fn take_bytes(n: usize, buffer: &mut [u8]) {
-    if buffer.len() < n {
-        return;
+// The next number of two bytes.
+fn next_two() -> usize
+    ensures { λ r. ⌜ r < 65536 ⌝ }
+{
+    let mut b = [0u8; 2];
+    io::read_full(STDIN_FILENO, &mut b);
+    (wide(b[0]) * 256 + wide(b[1])) as usize
+}
+
+// From `at` to `end`, what stands n places before.
+fn repeat_bytes(n: usize, at: usize, end: usize, buffer: &mut [u8]) {
+    let mut k = at;
+    while k < end {
+        if buffer.len() <= k {
+            return;
+        }
+        if k < n {
+            return;
+        }
+        let b = buffer[k - n];
+        buffer[k] = b;
+        k += 1;
     }
-    io::read_full(STDIN_FILENO, &mut buffer[..n]);
+}
+
+fn repeat_numbers(n: usize, at: usize, end: usize, buffer: &mut [i32]) {
+    let mut k = at;
+    while k < end {
+        if buffer.len() <= k {
+            return;
+        }
+        if k < n {
+            return;
+        }
+        let b = buffer[k - n];
+        buffer[k] = b;
+        k += 1;
+    }
+}
+
+// One run into a buffer from `at` on, a block and its copies: the place after it.
+fn run_of_bytes(at: usize, buffer: &mut [u8]) -> usize {
+    let total = next_four() as usize;
+    let n = next_two();
+    if 1000000 < at {
+        return at;
+    }
+    let end = at + n;
+    if buffer.len() < end {
+        return end;
+    }
+    io::read_full(STDIN_FILENO, &mut buffer[at..end]);
+    let last = at + total;
+    repeat_bytes(n, end, last, buffer);
+    last
+}
+
+fn run_of_numbers(at: usize, buffer: &mut [i32]) -> usize {
+    let total = next_four() as usize;
+    let n = next_two();
+    if 1000000 < at {
+        return at;
+    }
+    let end = at + n;
+    if buffer.len() < end {
+        return end;
+    }
+    next_numbers(&mut buffer[at..end]);
+    let last = at + total;
+    repeat_numbers(n, end, last, buffer);
+    last
+}
+
+// The next n bytes, or numbers, into a buffer.
+fn take_bytes(n: usize, buffer: &mut [u8]) {
+    let mut at: usize = 0;
+    let mut k: u32 = 0;
+    while k < 100000 {
+        if n <= at {
+            return;
+        }
+        at = run_of_bytes(at, buffer);
+        k += 1;
+    }
 }
 
 fn take_numbers(n: usize, buffer: &mut [i32]) {
-    if buffer.len() < n {
-        return;
+    let mut at: usize = 0;
+    let mut k: u32 = 0;
+    while k < 100000 {
+        if n <= at {
+            return;
+        }
+        at = run_of_numbers(at, buffer);
+        k += 1;
     }
-    next_numbers(&mut buffer[..n]);
 }
 
 fn run_bytes(call: u8, n: usize, room: usize, bytes: &[u8], space: &mut [i32]) {

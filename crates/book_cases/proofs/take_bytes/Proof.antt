@@ -1,37 +1,46 @@
--- `book_cases::take_bytes` is safe.
+-- `book_cases::take_bytes` is safe and ends.
 -- Assumes nothing.
-use mathlib.Core.Path.{sym}
-use denote.Ref.{now}
-use lib.Seq.{length-take-le}
+use mathlib.Core.Path.{_≡_}
+use Prim.Native.Nat.{_≤_, _-_}
+use lib.ListN.{length}
 use borrow.Author.Needs.{needs}
 use Rattle.book_cases.proofs.take_bytes.Statement.{statement}
 use Rattle.book_cases.proofs.take_bytes.Tie as tie
 
-returns : tie.Need-returns
-returns c = search needs
-
-slice-relend-prefix-read-full : tie.Need-slice-relend-prefix-read-full
-slice-relend-prefix-read-full c = search needs
-
-slice-aggregate-read-full : tie.Need-slice-aggregate-read-full
-slice-aggregate-read-full c = sym (length-take-le (c .before .before .before .args .n) (now (c .before .before .before .args .buffer)) (c .before .if1 .left))
-
-read-full-requires : tie.Need-read-full-requires
-read-full-requires c κs = search needs
-
-same-length : tie.Need-same-length
+abbrev Inv-loop : tie.InvT-loop
+Inv-loop n buffer₀ at₀ k₀ buffer at k = (k ≤ 100000) × (length buffer ≡ length buffer₀)
+abbrev μ-loop : tie.MeasureT-loop
+μ-loop n buffer₀ at₀ k₀ buffer at k = 100000 - k
+loop-holds : tie.Need-loop-holds Inv-loop μ-loop
+loop-holds c = search needs
+same-length : tie.Need-same-length Inv-loop μ-loop
 same-length c = search needs
-
-returns-2 : tie.Need-returns-2
+returns : tie.Need-returns Inv-loop μ-loop
+returns c = search needs
+run-of-bytes-requires : tie.Need-run-of-bytes-requires Inv-loop μ-loop
+run-of-bytes-requires c κs = search needs
+add-k : tie.Need-add-k Inv-loop μ-loop
+add-k c = search needs
+loop-less : tie.Need-loop-less Inv-loop μ-loop
+loop-less c = search needs
+loop-again : tie.Need-loop-again Inv-loop μ-loop
+loop-again c = search needs
+same-length-2 : tie.Need-same-length-2 Inv-loop μ-loop
+same-length-2 c = search needs
+returns-2 : tie.Need-returns-2 Inv-loop μ-loop
 returns-2 c = search needs
-
 pub take-bytes-spec : {M : Type 1} → statement M
 take-bytes-spec =
     tie.close
     (tie.spec
-    returns
-    slice-relend-prefix-read-full
-    slice-aggregate-read-full
-    read-full-requires
+    Inv-loop
+    μ-loop
+    loop-holds
     same-length
+    returns
+    run-of-bytes-requires
+    add-k
+    loop-less
+    loop-again
+    same-length-2
     returns-2)

@@ -1,37 +1,46 @@
--- `book_cases::take_numbers` is safe.
+-- `book_cases::take_numbers` is safe and ends.
 -- Assumes nothing.
-use mathlib.Core.Path.{sym}
-use denote.Ref.{now}
-use lib.Seq.{length-take-le}
+use mathlib.Core.Path.{_≡_}
+use Prim.Native.Nat.{_≤_, _-_}
+use lib.ListN.{length}
 use borrow.Author.Needs.{needs}
 use Rattle.book_cases.proofs.take_numbers.Statement.{statement}
 use Rattle.book_cases.proofs.take_numbers.Tie as tie
 
-returns : tie.Need-returns
-returns c = search needs
-
-slice-relend-prefix-next-numbers : tie.Need-slice-relend-prefix-next-numbers
-slice-relend-prefix-next-numbers c = search needs
-
-slice-aggregate-next-numbers : tie.Need-slice-aggregate-next-numbers
-slice-aggregate-next-numbers c = sym (length-take-le (c .before .before .args .n) (now (c .before .before .args .buffer)) (c .before .if1 .left))
-
-next-numbers-requires : tie.Need-next-numbers-requires
-next-numbers-requires c κs = search needs
-
-same-length : tie.Need-same-length
+abbrev Inv-loop : tie.InvT-loop
+Inv-loop n buffer₀ at₀ k₀ buffer at k = (k ≤ 100000) × (length buffer ≡ length buffer₀)
+abbrev μ-loop : tie.MeasureT-loop
+μ-loop n buffer₀ at₀ k₀ buffer at k = 100000 - k
+loop-holds : tie.Need-loop-holds Inv-loop μ-loop
+loop-holds c = search needs
+same-length : tie.Need-same-length Inv-loop μ-loop
 same-length c = search needs
-
-returns-2 : tie.Need-returns-2
+returns : tie.Need-returns Inv-loop μ-loop
+returns c = search needs
+run-of-numbers-requires : tie.Need-run-of-numbers-requires Inv-loop μ-loop
+run-of-numbers-requires c κs = search needs
+add-k : tie.Need-add-k Inv-loop μ-loop
+add-k c = search needs
+loop-less : tie.Need-loop-less Inv-loop μ-loop
+loop-less c = search needs
+loop-again : tie.Need-loop-again Inv-loop μ-loop
+loop-again c = search needs
+same-length-2 : tie.Need-same-length-2 Inv-loop μ-loop
+same-length-2 c = search needs
+returns-2 : tie.Need-returns-2 Inv-loop μ-loop
 returns-2 c = search needs
-
 pub take-numbers-spec : {M : Type 1} → statement M
 take-numbers-spec =
     tie.close
     (tie.spec
-    returns
-    slice-relend-prefix-next-numbers
-    slice-aggregate-next-numbers
-    next-numbers-requires
+    Inv-loop
+    μ-loop
+    loop-holds
     same-length
+    returns
+    run-of-numbers-requires
+    add-k
+    loop-less
+    loop-again
+    same-length-2
     returns-2)

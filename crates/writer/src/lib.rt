@@ -260,7 +260,7 @@ pub fn put_clauses(plain: &[i32], variables: u16, out: &mut [u8]) -> usize
     let mut t = &plain[2..];
     let mut i: usize = 2;
     let mut at: usize = 7;
-    while t.len() > 0 {
+    while t.len() != 0 {
         match scan_clause(&t[1..], variables, i + 1) {
             Scan::Wrong {
                 number: _,

@@ -32,7 +32,7 @@ begin : (c : tie.After-slice-known Inv-loop μ-loop) → Ready (now (c .before .
 begin c = ready _ _ _ (c .before .pre .0) (c .before .pre .1 .0)
 
 some : (c : tie.In-loop Inv-loop μ-loop) → length (c .before .loop .t .now) ≡ 0 → ⊥
-some c z = omega (arith, c .loop-test .taken)
+some c z = c .loop-test .taken z
 
 -- at a clause
 found : (c : tie.After-head Inv-loop μ-loop)
@@ -142,13 +142,13 @@ loop-again : tie.Need-loop-again Inv-loop μ-loop
 loop-again c = copy-next _ _ _ _ _ _ (c .before .before .before .before .before .before .before .before .before .before .before .before .before .loop .t .now) _ _ (c .before .before .before .before .before .before .before .before .before .before .before .before .before .loop .inv) (some (c .before .before .before .before .before .before .before .before .before .before .before .before)) _ _ _ (found (c .before .before .before .before .before .before .before .before)) _ _ (c .before .before .before .put-clause .ensures)
 
 put-front-requires : tie.Need-put-front-requires Inv-loop μ-loop
-put-front-requires c κs = copy-last _ _ _ _ _ _ _ _ _ (c .before .before .loop .inv) (c .before .loop-test .left) (c .before .before .before .before .before .pre .1 .1)
+put-front-requires c κs = copy-last _ _ _ _ _ _ _ _ _ (c .before .before .loop .inv) (omega (arith, c .before .loop-test .left)) (c .before .before .before .before .before .pre .1 .1)
 
 same-length-2 : tie.Need-same-length-2 Inv-loop μ-loop
 same-length-2 c = c .before .before .put-front .kept .1 .1 .0 ∙ writing-length _ _ _ _ _ _ (c .before .before .before .before .before .loop .inv .writing)
 
 returns-2 : tie.Need-returns-2 Inv-loop μ-loop
-returns-2 c = copy-end _ _ _ _ _ _ _ _ _ (c .before .before .before .before .before .loop .inv) (c .before .before .before .before .loop-test .left) _ _ (c .before .before .put-front .ensures)
+returns-2 c = copy-end _ _ _ _ _ _ _ _ _ (c .before .before .before .before .before .loop .inv) (omega (arith, c .before .before .before .before .loop-test .left)) _ _ (c .before .before .put-front .ensures)
 
 pub put-clauses-spec : {M : Type 1} → statement M
 put-clauses-spec =

@@ -16,6 +16,7 @@
 --   following o at r more      what comes after the field: the end, or more clauses
 --   fields v g left at r       the clauses from here to the end, or the refusal
 --   header s                   a book's variables and groups, with no clause yet, or the refusal
+--   withClauses v g cs         the book of those
 --   reading s                  the book that s is, or the refusal
 -- Assumes nothing: these are definitions.
 use Prim.Native.Nat.{ℕ, zero, suc, _+_, _-_, _%_}

@@ -1,5 +1,6 @@
 -- An accepted book, and its clauses one after the other.
---   bookOf s      the book that s is; one with nothing in it where s is refused
+--   taken a       the book that was answered; one with nothing in it where there is none
+--   bookOf s      the book that s is, so taken
 --   IsBook s      s is bytes, and they are accepted
 --   frontOf r     what stands first after the header: a clause, told by its head and by where its groups, its body and its field
 --                 lie, or the end. The end is three bytes long, and a clause at least seven

@@ -8,7 +8,9 @@
 --   bodyTests v h last count n  what is tested of a negative literal -n, after the head h and count others, the last of them -last
 --   Ended, ended h ws j xs      the head and the body of a clause, and what follows its 0 from index j on
 --   literalsAt v h last count i xs      a clause's literals up to its 0
+--   starting xs go              a clause is to begin, unless the numbers are at their end
 --   clausesAt v g left i xs     clause by clause up to the end
+--   afterVariables v xs         the numbers after the first
 --   taking xs                   the whole
 -- Assumes nothing: these are definitions.
 use Prim.Native.Nat.{ℕ, zero, suc, _+_}
@@ -62,7 +64,6 @@ literalsAt v h last count i (negsuc n ∷ xs) =
     unless (first (bodyTests v h last count (suc n))) i
     (andThen (literalsAt v h (suc n) (count + 1) (i + 1) xs) (λ e. ended (e .head) (suc n ∷ e .body) (e .next) (e .rest)))
 
--- a clause is to begin, unless the numbers are at their end
 unfoldable pub starting : List ℤ → (ℤ → List ℤ → Answer (List Clause)) → Answer (List Clause)
 starting [] go = answered []
 starting (x ∷ xs) go = go x xs

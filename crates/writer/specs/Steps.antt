@@ -1,7 +1,7 @@
 -- What the steps of writing answer.
 --   scanOf count a    a clause's literals up to its 0, after `count` body literals: its head, how many are in its body, the index past its 0
 --   takenOf a         the header's numbers and the length of the book that is to be written
---   bookFrom xs       the book that a plain form is; one with nothing in it where it is refused
+--   bookFrom xs       the book that a plain form is taken as
 --   IsPlain xs        the plain form is taken
 --   sizes xs          numbers without their signs, as far as two bytes hold them
 -- Assumes nothing: these are definitions.

@@ -5,7 +5,7 @@ space has; the input as runs (see `runs`), of bytes or of numbers of 4 bytes. Be
 Its line: the answer, and for read and write a checksum of the whole space after the call (see `checksum`).
 
 Where a case is given a wanted answer ('N@P' a refusal, 'V G C' of a check, a count of the others), that answer
-was worked out by hand from document 01 or copied from readings.md, and twin.py must agree with it.
+is one that document 01 or docs/DECISIONS.md gives for it, and twin.py must agree with it.
 """
 import random
 import sys
@@ -41,7 +41,7 @@ def checksum(space):
 
 
 def assert_inverses(call, data):
-    """Read then write, or write then read, gives back an accepted input (B37)."""
+    """Read then write, or write then read, gives back an accepted input."""
     key = bytes(data) if call < 3 else tuple(data)
     kind = 3 if call == 3 else 2
     if key in inverse[kind]:
@@ -122,7 +122,7 @@ def section(letter):
     sections.append((letter, len(lines), len(cases)))
 
 
-# ---------------------------------------------------------------- inputs, in the notation of readings.md
+# ---------------------------------------------------------------- inputs: fields, clauses, books
 
 def n2(n):
     return bytes([n // 256, n % 256])
@@ -223,7 +223,7 @@ def section_a():
     read(XB, 22, '11@0')
     read(XB, 30, 23)
     read(XB, 0, '11@0')
-    # X's plain form written with exact room, one less, more, none (B32)
+    # X's plain form written with exact room, one less, more, none
     write(XP, 60, 60)
     write(XP, 59, '11@0')
     write(XP, 64, 60)
@@ -258,7 +258,7 @@ def section_b():
 
 
 def section_c():
-    # 2: a field is due and 0, 1 or 2 bytes remain, at the first and at later fields (B10)
+    # 2: a field is due and 0, 1 or 2 bytes remain, at the first and at later fields
     for cut in (b'', b'\x01', b'\x01\x00', b'\x02\x00'):
         bad_book(cut, '2@0')
         bad_book(H + cut, '2@7')
@@ -276,12 +276,17 @@ def section_c():
         at = max([0] + [p for p in (7, 16, 23, 32, 39, 48, 57) if p <= k])
         check(XB[:k], '2@%d' % at)
         read(XB[:k], k % 5 * 6, '2@%d' % at)
+    # X damaged at every byte
+    for k in range(60):
+        for byte in (0, 255, XB[k] + 1, XB[k] ^ 2):
+            check(XB[:k] + bytes([byte]) + XB[k + 1:])
+            read(XB[:k] + bytes([byte]) + XB[k + 1:], 40)
     # 3: unknown tags, 3 among them, first, in the middle, where the end is due
     for tag in (3, 4, 5, 16, 17, 127, 128, 255):
         bad_book(fld(tag, b''), '3@0')
         bad_book(H + fld(tag, n2(1) + n2(2)) + E, '3@7')
         bad_book(H + cl(1, 2, 3) + fld(tag, b'') + E, '3@16')
-    # 4: a first field that is no header; a header later, also an equal one (B5)
+    # 4: a first field that is no header; a header later, also an equal one
     bad_book(E, '4@0')
     bad_book(cl(0, 0) + E, '4@0')
     bad_book(H + H + E, '4@7')
@@ -316,7 +321,7 @@ def section_c():
     bad_book(H + cl(2, 3, 1, 2, 3) + cl(2, 3, 3, 1, 2) + E, '8@20')
     bad_book(hdr(1024, 0) + cl(0, 0, 255, 256, 255) + E, '8@7')
     bad_book(hdr(1024, 0) + cl(0, 0, 257, 256) + E, '8@7')
-    # 9: bytes after the end (B9)
+    # 9: bytes after the end
     bad_book(H + E + b'\x00', '9@10')
     bad_book(H + E + E, '9@10')
     bad_book(H + E + H, '9@10')
@@ -377,7 +382,7 @@ def section_c():
 
 
 def section_d():
-    # 2 before 3 (B2)
+    # 2 before 3
     bad_book(hexb('050001'), '2@0')
     bad_book(hexb('05'), '2@0')
     bad_book(hexb('0500'), '2@0')
@@ -400,14 +405,14 @@ def section_d():
     bad_book(hexb('010004 FFFFFF'), '2@0')
     bad_book(H + hexb('020006 0009 0009'), '2@7')
     bad_book(H + hexb('02000A 0000 0000 0002 0001'), '2@7')
-    # 3 before 4 (B2), 5, 7, 8
+    # 3 before 4, 5, 7, 8
     bad_book(hexb('050000'), '3@0')
     bad_book(hexb('030000') + H + E, '3@0')
     bad_book(H + hexb('030001 00') + E, '3@7')
     bad_book(H + fld(3, bytes(70)) + E, '3@7')
     bad_book(H + fld(3, n2(9) + n2(9) + n2(0)) + E, '3@7')
     bad_book(H + fld(6, n2(0) + n2(0) + n2(2) + n2(1)) + E, '3@7')
-    # 4 before 5 (B3)
+    # 4 before 5
     bad_book(hexb('00000107'), '4@0')
     bad_book(hexb('020003000000'), '4@0')
     bad_book(fld(2, bytes(70)) + E, '4@0')
@@ -418,7 +423,7 @@ def section_d():
     bad_book(cl(0, 0, 2, 1) + E, '4@0')
     bad_book(H + hdr(0, 0) + E, '4@7')
     bad_book(H + hdr(1025, 33) + E, '4@7')
-    # 5 before 7 (B4), 8 (6: in e)
+    # 5 before 7, 8 (6: in e)
     bad_book(fld(1, bytes(5)) + E, '5@0')
     bad_book(fld(1, bytes(2)) + E, '5@0')
     bad_book(fld(1, hexb('FFFFFFFFFF')) + E, '5@0')
@@ -428,7 +433,7 @@ def section_d():
     bad_book(H + fld(2, n2(9) + bytes(68)) + E, '5@7')
     bad_book(hdr(40, 1) + cl(1, 0, *reversed(UP33)) + E, '5@7')
     bad_book(H + fld(2, bytes(4) + n2(2) + n2(1) + b'\x00') + E, '5@7')
-    # 7 before 8 inside one field, both orders of position in the body (B7); 7 at group and head with a falling body
+    # 7 before 8 inside one field, both orders of position in the body; 7 at group and head with a falling body
     bad_book(H + cl(0, 0, 2, 1, 4) + E, '7@7')
     bad_book(H + cl(0, 0, 4, 2, 1) + E, '7@7')
     bad_book(H + cl(0, 0, 2, 1, 0) + E, '7@7')
@@ -438,7 +443,7 @@ def section_d():
     bad_book(H + cl(0, 0, 4, 4) + E, '7@7')
     bad_book(H + cl(3, 0, 2, 1) + E, '7@7')
     bad_book(H + cl(0, 4, 2, 1) + E, '7@7')
-    # the readings' other zero and header inputs: B4, B6
+    # other zero and header inputs
     bad_book(hdr(0, 33) + E, '7@0')
     good_book(hdr(1, 0) + E, '1 0 0')
     # field by field: a fault in an earlier field wins over any fault in a later one
@@ -459,7 +464,7 @@ def section_d():
     # 9 over what the bytes after the end would be as fields: 2, 3, 4, 5, 7, 8
     for tail in (b'\x01', b'\x02\x00', fld(5, b''), H, fld(2, bytes(5)), cl(9, 9), cl(0, 0, 2, 1), b'\x05\x00\x01'):
         bad_book(H + cl(1, 2, 3) + E + tail, '9@19')
-    # header numbers while writing: 7 before 12 if the number exists (B25)
+    # header numbers while writing: 7 before 12 if the number exists
     bad_form([0], '7@0')
     bad_form([1025], '7@0')
     bad_form([-1], '7@0')
@@ -469,11 +474,11 @@ def section_d():
     bad_form([0, 99], '7@0')
     bad_form([0, 2, 3], '7@0')
     bad_form([5, 33, 40], '7@1')
-    # B26: where a plain form may end
+    # where a plain form may end
     bad_form([1, 0, 0], '12@3')
     good_form([1, 0, 0, 0], 17)
     good_form([1, 0, 0, 0, 0, 0], 24)
-    # 7 before 13, 8 and 5 at a literal (B27)
+    # 7 before 13, 8 and 5 at a literal
     bad_form([2, 0, 0, 1, 3], '7@4')
     bad_form([2, 0, 0, 1, 3, 0], '7@4')
     bad_form([3, 0, 0, 1, -4, 0], '7@4')
@@ -481,16 +486,16 @@ def section_d():
     bad_form([40, 0, 0] + NEG32 + [MIN, 0], '7@35')
     bad_form([40, 0, 0] + NEG32 + [7, -41, 0], '7@36')
     bad_form([40, 0, 0] + NEG32 + [7, 41, 0], '7@36')
-    # 8 before 5: the 33rd body literal falls, repeats, comes after the head (B27)
+    # 8 before 5: the 33rd body literal falls, repeats, comes after the head
     bad_form([40, 0, 0] + NEG32 + [-31, 0], '8@35')
     bad_form([40, 0, 0] + NEG32 + [-32, 0], '8@35')
     bad_form([40, 0, 0] + NEG32 + [7, -33, 0], '8@36')
     bad_form([40, 0, 0] + [-v for v in range(2, 34)] + [-1, 0], '8@35')
-    # 13 with 32 body literals before it; 33 literals in all accepted (B28, B30)
+    # 13 with 32 body literals before it; 33 literals in all accepted
     bad_form([40, 0, 0] + NEG32 + [7, 7, 0], '13@36')
     good_form([40, 0, 0] + NEG32 + [7, 0], 81)
     bad_form([2, 0, 0, 1, 1, 0], '13@4')
-    # the first faulty number wins: B7's and B27's inputs, 13 before a later 8 and the other way
+    # the first faulty number wins, 13 before a later 8 and the other way
     bad_form([3, 2, 0, -2, -1, -4, 0], '8@4')
     bad_form([3, 2, 0, -4, -2, -1, 0], '7@3')
     bad_form([3, 0, 0, -1, 2, -3, 0], '8@5')
@@ -559,7 +564,7 @@ def section_e():
                   wide + cl(33, 0) + E, wide + cl(0, 0, 2, 1) + E, wide + E + bytes(1)):
         check(other + bytes(max(0, 65536 - len(other))), '1@0')
         read(other + bytes(max(0, 65536 - len(other))), 0, '1@0')
-    # 65,536 bytes written with enough room: 1; with none: 1 before 11 (B31)
+    # 65,536 bytes written with enough room: 1; with none: 1 before 11
     write(p, 70000, '1@0')
     write(p, 0, '1@0')
     # a fault of the form comes before 1, wherever it stands
@@ -568,14 +573,14 @@ def section_e():
     for fault, number, where in (([33, 0], 7, 0), ([0, 1, 2, 0], 13, 2), ([0, -2, -1, 0], 8, 2), (clause[:-1] + [-33, 0], 5, 33)):
         write(form + fault, 0, '%d@%d' % (number, len(form) + where))
     write([1024, 32] + clause * 2048 + [33], 0, '6@%d' % (2 + 34 * 2048))
-    # a form too long in its complete clauses, then a clause that lacks its 0: 12 before 1 and 11 (B31, sharper: here
-    # a length tested at each number and one tested at each clause's 0 both come too early)
+    # a form too long in its complete clauses, then a clause that lacks its 0: 12 before 1 and 11: here
+    # a length tested at each number and one tested at each clause's 0 both come too early
     cut = plain_of(*long_book(65536, 2046, 3)) + [7]
     write(cut, 0, '12@%d' % len(cut))
-    # B1: 65,536 zero bytes give 1 and not 4, 65,535 give 4
+    # 65,536 zero bytes give 1 and not 4, 65,535 give 4
     check(bytes(65536), '1@0')
     check(bytes(65535), '4@0')
-    # clause 2,049 with each kind of fault (B8); 2,048 and 2,049 good clauses and the end after 2,048 are in b
+    # clause 2,049 with each kind of fault; 2,048 and 2,049 good clauses and the end after 2,048 are in b
     full = hdr(2, 1) + cl(0, 0) * 2048
     at = len(full)
     check(full + hexb('020006 0000 0000'), '2@%d' % at)             # 2 before 6
@@ -585,6 +590,12 @@ def section_e():
     check(full + fld(2, bytes(70)) + E, '5@%d' % at)                # 5 before 6
     read(full + cl(2, 0) + E, 0, '6@%d' % at)                       # 6 before 7 and 11
     check(full + cl(0, 0, 2, 1) + E + b'\x00', '6@%d' % at)         # 6 before 8 and 9
+    # a fault in an earlier clause before a later clause 2,049
+    for number, fault in ((3, fld(5, b'')), (4, hdr(3, 2)), (5, fld(2, bytes(5))), (7, cl(3, 0)), (8, cl(0, 0, 2, 1))):
+        check(H + fault + cl(0, 0) * 2049 + E, '%d@7' % number)
+        read(H + fault + cl(0, 0) * 2049 + E, 0, '%d@7' % number)
+    for number, fault, where in ((7, [3, 0], 2), (13, [0, 1, 1, 0], 4), (8, [0, -2, -1, 0], 4), (5, [0] + NEG32 + [-33, 0], 35)):
+        write([40, 2] + fault + [1, 0] * 2049, 0, '%d@%d' % (number, where))
     # writing clause 2,049: 6 before 7 at its group, before its literals, 12 and 11
     full = [1, 1] + [0, 0] * 2048
     write(full + [2, 2, 1, 1, -1, 0], 0, '6@%d' % len(full))
@@ -650,7 +661,7 @@ def section_g():
     for e in (MIN, MAX, -1, 0, 1, MIN + 1, -MAX + 1, MAX - 1, -65535, -65536, -65537, 65535, 65536, 65537, 65538,
               -32767, -32768, 32768, 255, 256, 257, -255, -256, -257, 2, 3, 4, -2, -3, -4):
         small = 0 <= e <= 2
-        write([e], 30, '12@1' if 1 <= e <= 1024 else '7@0')                       # variables, alone (B25)
+        write([e], 30, '12@1' if 1 <= e <= 1024 else '7@0')                       # variables, alone
         write([e, 0], 30, 10 if 1 <= e <= 1024 else '7@0')                        # variables
         write([3, e], 30, 10 if 0 <= e <= 32 else '7@1')                          # groups
         write([3, 2, e, 0], 30, 17 if small else '7@2')                           # group, first clause

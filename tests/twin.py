@@ -1,4 +1,4 @@
-"""Rule books: check, read, write.  A reference written from document 01 and readings B1..B39 only.
+"""Rule books: check, read, write.  Document 01 as docs/DECISIONS.md reads it.
 
 Answers are tuples:
   check(book)         -> ('book', variables, groups, clauses)  or ('refused', number, place)
@@ -31,7 +31,7 @@ def numbers(value):
 def header_field(value, at):
     refuse_if(len(value) != 4, 5, at)                                       # 5 header length not 4
     variables, groups = numbers(value)
-    refuse_if(not 1 <= variables <= VARIABLES or groups > GROUPS, 7, at)    # 7 outside its limit (B4)
+    refuse_if(not 1 <= variables <= VARIABLES or groups > GROUPS, 7, at)    # 7 outside its limit
     return variables, groups
 
 
@@ -40,7 +40,7 @@ def clause_field(value, at, variables, groups, clauses_before):
     refuse_if(clauses_before == CLAUSES, 6, at)                             # 6 clause 2,049
     group, head, *body = numbers(value)
     refuse_if(group > groups or head > variables, 7, at)                    # 7 outside the header's counts
-    refuse_if(any(not 1 <= v <= variables for v in body), 7, at)            # 7 the whole field first (B6, B7)
+    refuse_if(any(not 1 <= v <= variables for v in body), 7, at)            # 7 the whole field first
     refuse_if(any(a >= b for a, b in zip(body, body[1:])), 8, at)           # 8 not strictly rising
     return group, body, head
 
@@ -51,10 +51,10 @@ def end_field(value, at):
 
 def walk(book):
     """Variables, groups and the list of clauses (group, body, head), or Refused."""
-    refuse_if(len(book) > BOOK_BYTES, 1, 0)                                 # 1 before everything (B1)
+    refuse_if(len(book) > BOOK_BYTES, 1, 0)                                 # 1 before everything
     at, clauses = 0, []
     while True:
-        refuse_if(len(book) - at < 3, 2, at)                                # 2 a field is due (B10)
+        refuse_if(len(book) - at < 3, 2, at)                                # 2 a field is due
         tag, after = book[at], at + 3 + book[at + 1] * 256 + book[at + 2]
         refuse_if(after > len(book), 2, at)                                 # 2 length runs past the end
         value = book[at + 3:after]
@@ -81,7 +81,7 @@ def to_plain(variables, groups, clauses):
 # ---------------------------------------------------------------- writing: a plain form's numbers
 
 def plain_header(plain):
-    refuse_if(len(plain) > 0 and not 1 <= plain[0] <= VARIABLES, 7, 0)      # 7 before 12 if it exists (B25)
+    refuse_if(len(plain) > 0 and not 1 <= plain[0] <= VARIABLES, 7, 0)      # 7 before 12 if it exists
     refuse_if(len(plain) > 1 and not 0 <= plain[1] <= GROUPS, 7, 1)         # 7
     refuse_if(len(plain) < 2, 12, len(plain))                               # 12 under two numbers
     return plain[0], plain[1]
@@ -97,17 +97,17 @@ def plain_clause(plain, at, variables, groups, clauses_before):
         x = plain[at]
         if x == 0:
             return (group, body, head), at + 1
-        refuse_if(not -variables <= x <= variables, 7, at)                  # 7 literal (B29)
-        refuse_if(x > 0 and head != 0, 13, at)                              # 13 second positive (B28)
+        refuse_if(not -variables <= x <= variables, 7, at)                  # 7 literal
+        refuse_if(x > 0 and head != 0, 13, at)                              # 13 second positive
         refuse_if(x < 0 and head != 0, 8, at)                               # 8 a negative after the head
         refuse_if(x < 0 and body != [] and -x <= body[-1], 8, at)           # 8 not strictly rising
-        refuse_if(x < 0 and len(body) == BODY, 5, at)                       # 5 the 33rd body literal (B30)
+        refuse_if(x < 0 and len(body) == BODY, 5, at)                       # 5 the 33rd body literal
         if x > 0:
             head = x
         else:
             body.append(-x)
         at += 1
-    raise Refused(12, len(plain))                                           # 12 ends before its 0 (B26)
+    raise Refused(12, len(plain))                                           # 12 ends before its 0
 
 
 def plain_walk(plain):
@@ -135,7 +135,7 @@ def to_book(variables, groups, clauses):
 # ---------------------------------------------------------------- the three calls
 
 def put(written, space):
-    refuse_if(len(written) > len(space), 11, 0)                             # 11 lent space too small (B12)
+    refuse_if(len(written) > len(space), 11, 0)                             # 11 lent space too small
     space[:len(written)] = written                                          # what follows stays
     return 'count', len(written)
 
@@ -159,7 +159,7 @@ def write(plain, space):
     try:
         variables, groups, clauses = plain_walk(plain)
         length = 10 + sum(7 + 2 * len(body) for _, body, _ in clauses)
-        refuse_if(length > BOOK_BYTES, 1, 0)                                # 1 at the end, before 11 (B31)
+        refuse_if(length > BOOK_BYTES, 1, 0)                                # 1 at the end, before 11
         book = to_book(variables, groups, clauses)
         assert len(book) == length                                          # the length document 01 states
         return put(book, space)

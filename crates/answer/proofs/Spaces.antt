@@ -7,6 +7,7 @@
 --   wrote-none, wrote-one       no store, and one
 --   wrote-append                one run of stores after another
 --   wrote-length                the space is as long as it was
+--   wrote-sole                  the space and the place after what was written are determined
 --   Writing                     the invariant of a loop that writes: what is left of all that is to be written
 --   writing-..                  its start, what it says of places, its next turn, its end
 -- Assumes nothing.
@@ -96,6 +97,9 @@ module _ {A : Type 0} where
 
   pub wrote-length : (l : List A) (i : ℕ) (xs o : List A) (j : ℕ) → Wrote l i xs o j → length o ≡ length l
   wrote-length l i xs o j w = ap length (w .list) ∙ length-sets l i xs
+
+  pub wrote-sole : (l : List A) (i : ℕ) (xs o o′ : List A) (j j′ : ℕ) → Wrote l i xs o j → Wrote l i xs o′ j′ → (o ≡ o′) × (j ≡ j′)
+  wrote-sole l i xs o o′ j j′ u w = (u .list ∙ sym (w .list), u .place ∙ sym (w .place))
 
 -- `all` is to be written into `old` from `at` on; so far this gave `new`, with the next place i, and `left` is left
 pub record Writing {A : Type 0} (all old : List A) (at : ℕ) (new : List A) (i : ℕ) (left : List A) : Type 0 where

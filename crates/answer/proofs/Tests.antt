@@ -1,6 +1,6 @@
--- A list of tests gives 0 exactly where none of them holds; one number or else another.
+-- Where a list of tests gives 0 none of them holds; one number or else another.
 --   Clear ts                   none of some tests holds
---   first-clear, clear-first   first ts is 0: both ways
+--   first-clear                where first ts is 0, none holds
 --   or-none, or-some           n orElse m, by n
 --   or-zero                    where n orElse m is 0, both are
 -- Assumes nothing.

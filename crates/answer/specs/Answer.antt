@@ -1,7 +1,7 @@
 -- A call answers, or it refuses by number and place.
 --   Answer A         answered a, or refused number place
 --   andThen a f      f of what a answers; a's refusal stays
---   b ⇒ n            a test, and the number of the refusal that is given where it holds
+--   Test, b ⇒ n      a test, and the number of the refusal that is given where it holds
 --   first ts         the number of the first of some tests that holds; 0 where none does
 --   n orElse m       n, or m where n is 0
 --   unless n at a    refused n at; or a where n is 0

@@ -1,7 +1,7 @@
 -- How many bytes a book is.
 --   clause-length       a clause's field
 --   fieldsLength cs     the fields of some clauses together
---   book-length         the whole book
+--   header-length, book-length      the header, and the whole book
 --   written-length      by document 01's sum, where the book is well formed
 -- Assumes nothing.
 use Prim.Native.Nat.{ℕ, _+_, _*_}

@@ -1,6 +1,8 @@
 -- What no test's holding says of a header, of a clause and of a field, and the other way round.
 --   StartOk, HeaderOk, ClauseOk, FieldOk      what a right one satisfies
 --   ..-ok                            nothing is wrong with it, so it satisfies that
+--   shape-least                      a clause of a right length has its group and its head
+--   body-within, body-rises          what the two tests of the body part say
 --   ..-none                          it satisfies that, so nothing is wrong with it
 -- Assumes nothing.
 use Prim.Native.Nat.{ℕ, zero, suc, _-_, _≤_, _<_, _%_}

@@ -1,5 +1,5 @@
 -- A walk over an accepted book's clauses: what stands first, and what follows.
---   well-formed        an accepted book is well formed
+--   read, well-formed      an accepted book is read from its bytes, and is well formed
 --   Walk v g r cs      r is the bytes of the clauses cs, which are good, with the end after them
 --   Begun, begun       the walk begins past the header
 --   walk-over          at the end no clause is left
@@ -90,12 +90,12 @@ pub walk-over : (v g : ℕ) (r : List ℕ) (cs : List Clause) → Walk v g r cs 
 walk-over v g r [] w e = refl
 walk-over v g r (c ∷ cs) w e = let f = ahead v g r c cs w .front in let z : _≡_ {A = ℕ} 0 1 = cc in absurd (omega arith)
 
-pub record Turn (v g : ℕ) (r : List ℕ) (cs : List Clause) (from to body size : ℕ) : Type 0 where
+pub record Turn (v g : ℕ) (r : List ℕ) (cs : List Clause) (from h body size : ℕ) : Type 0 where
   pub now : Clause
   pub later : List Clause
   pub is : cs ≡ now ∷ later
   pub good : GoodClause v g now
-  pub head : to ≡ now .head
+  pub head : h ≡ now .head
   pub before : from + 2 ≤ body
   pub groups : words (take (body - 2 - from) (drop from r)) ≡ now .groups
   pub least : body ≤ size
@@ -105,9 +105,9 @@ pub record Turn (v g : ℕ) (r : List ℕ) (cs : List Clause) (from to body size
   pub numbers : words (take (size - body) (drop body r)) ≡ now .body
   pub next : Walk v g (take (length r - size) (drop size r)) later
 
-pub walk-on : (v g : ℕ) (r : List ℕ) (cs : List Clause) (from to body n : ℕ) → Walk v g r cs → frontOf r ≡ Front·v.Clause from to body n → Turn v g r cs from to body n
-walk-on v g r [] from to body n w e = let f = at-end v g r w in let z : _≡_ {A = ℕ} 0 1 = cc in absurd (omega arith)
-walk-on v g r (c ∷ cs) from to body n w e =
+pub walk-on : (v g : ℕ) (r : List ℕ) (cs : List Clause) (from h body n : ℕ) → Walk v g r cs → frontOf r ≡ Front·v.Clause from h body n → Turn v g r cs from h body n
+walk-on v g r [] from h body n w e = let f = at-end v g r w in let z : _≡_ {A = ℕ} 0 1 = cc in absurd (omega arith)
+walk-on v g r (c ∷ cs) from h body n w e =
     let a = ahead v g r c cs w in
     let f = a .front in
     let s = a .starts in

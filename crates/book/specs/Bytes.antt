@@ -2,7 +2,7 @@
 --   most..             the limits
 --   GoodClause v g c   what is asked of a clause in a book of v variables and g groups
 --   GoodClauses        the same of each of some clauses
---   WellFormed b       what is asked of a book
+--   WellFormed b       what is asked of a book, save the length of its bytes
 --   clauseBytes c      a clause's field: its group, its head, its body
 --   clausesBytes cs    a field for each clause, and the end
 --   bytesOf b          the whole book: the header, the clauses, the end

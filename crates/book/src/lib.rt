@@ -107,10 +107,12 @@ pub fn wrong_numbers(rest: &[u8], variables: u16, groups: u16) -> u8
     }
     let end = field::size_of(rest);
     let body = &rest[7..end];
-    if !field::all_within(body, 1, variables) {
+    let inside = field::all_within(body, 1, variables);
+    let rises = field::is_rising(body);
+    if !inside {
         return 7;
     }
-    if !field::is_rising(body) {
+    if !rises {
         return 8;
     }
     0

@@ -1,4 +1,5 @@
--- Refusals that document 01 and its readings give by example, computed: one row an input, the number and the place.
+-- Refusals that document 01 and docs/DECISIONS.md give by example, computed: one row an input, the number and the place.
+--   Row, Refused       an input and its refusal; each of some rows is refused so
 --   reading-cases      of books
 --   taking-cases       of plain forms
 -- Assumes nothing.
@@ -22,7 +23,7 @@ abbrev pub Refused : {A : Type 0} → (List A → Answer Book) → List (Row A) 
 Refused f [] = Unit {0}
 Refused f ((s gives n at p) ∷ rows) = (f s ≡ refused n p) × Refused f rows
 
--- case 13, and readings B2, B3, B4, B5, B6, B7, B9
+-- reading: case 13 first
 pub reading-cases : Refused reading
     (([] gives 2 at 0)
     ∷ ((0 ∷ 0 ∷ 0 ∷ []) gives 4 at 0)
@@ -40,7 +41,7 @@ pub reading-cases : Refused reading
 unfolding words within rising short wrongHeader wrongClause wrongField field ending following fields header reading andThen first _orElse_ unless
 reading-cases = (refl, (refl, (refl, (refl, (refl, (refl, (refl, (refl, (refl, (refl, (refl, (refl, tt))))))))))))
 
--- readings B7, B25, B26, B27, B28, B29
+-- writing
 pub taking-cases : Refused taking
     (([] gives 12 at 0)
     ∷ ((pos 5 ∷ []) gives 12 at 1)

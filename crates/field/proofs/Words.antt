@@ -3,7 +3,12 @@
 --   bytes-drop, bytes-take       of a part
 --   words-none, spelt            what some bytes spell, by their length
 --   within-.., rising-..         one turn of a test of a part's numbers
+--   cons-.., one-..              a test of a number and of those after it
+--   high-byte, low-byte, two-bytes      a number and its two bytes
+--   words-two                    one number spelt
 --   words-bytes, bytes-words     numbers and their bytes, both ways
+--   wordBytes-append             of two runs of numbers
+--   and-left, and-right          of two tests together
 --   length-words, length-wordBytes      how many
 -- Assumes nothing.
 use Prim.Native.Nat.{ℕ, zero, suc, _+_, _-_, _*_, _/_, _%_, _≤_, _<_}

@@ -1,7 +1,7 @@
 -- What reading to plain form answers and leaves, by what the bytes are.
 --   plain-length                                how many numbers a book is
 --   read-refused, read-short, read-written      the three ways
---   read-one                                    the contract of `read` determines its answer and the space
+--   Read, read-one                              the contract of `read`; it determines its answer and the space
 -- Assumes nothing.
 use Prim.Native.Nat.{ℕ, _+_, _≤_, _<_}
 use mathlib.Core.Path.{_≡_, refl, sym, ap, _∙_}

@@ -29,9 +29,9 @@ head-length zero = omega arith
 head-length (suc h) = omega arith
 
 -- the clause at hand, as its parts spell it
-module _ (v g : ℕ) (r : List ℕ) (cs : List Clause) (from to body n : ℕ) (t : Turn v g r cs from to body n) where
+module _ (v g : ℕ) (r : List ℕ) (cs : List Clause) (from hd body n : ℕ) (t : Turn v g r cs from hd body n) where
   abbrev pub here : List ℤ
-  here = plainClause (clauseFrom (words (take (body - 2 - from) (drop from r))) to (words (take (n - body) (drop body r))))
+  here = plainClause (clauseFrom (words (take (body - 2 - from) (drop from r))) hd (words (take (n - body) (drop body r))))
 
   here-is : here ≡ plainClause (t .now)
   here-is = simp (t .groups, t .head, t .numbers)
@@ -40,13 +40,13 @@ module _ (v g : ℕ) (r : List ℕ) (cs : List Clause) (from to body n : ℕ) (t
   unfolding plainClauses
   turn-plain = ap plainClauses (t .is) ∙ ap (λ (l : List ℤ). l ++ plainClauses (t .later)) (sym here-is)
 
-  pub turn-length : (body - 2 - from) / 2 + (n - body) / 2 + length (headLiteral to) + 1 ≡ length here
+  pub turn-length : (body - 2 - from) / 2 + (n - body) / 2 + length (headLiteral hd) + 1 ≡ length here
   turn-length =
       let gs = take (body - 2 - from) (drop from r) in
       let ws = take (n - body) (drop body r) in
       omega (
         arith,
-        clause-numbers (clauseFrom (words gs) to (words ws)),
+        clause-numbers (clauseFrom (words gs) hd (words ws)),
         length-words gs,
         length-words ws,
         part-length r from (body - 2 - from) (omega (arith, t .before, t .least, t .fits)),
@@ -76,17 +76,17 @@ adding-end v g all r n k e =
     let z : length (plainClauses (k .left)) ≡ 0 = ap (λ (l : List Clause). length (plainClauses l)) (walk-over v g r (k .left) (k .walk) e) in
     omega (arith, k .sum)
 
-pub adding-next : (v g : ℕ) (all : List Clause) (r : List ℕ) (n from to body m : ℕ) (k : Adding v g all r n) (t : Turn v g r (k .left) from to body m) (x : ℕ)
-    → x ≡ (body - 2 - from) / 2 + (m - body) / 2 + length (headLiteral to) + 1 → Adding v g all (take (length r - m) (drop m r)) (n + x)
-adding-next v g all r n from to body m k t x e =
-    let h = here v g r (k .left) from to body m t in
+pub adding-next : (v g : ℕ) (all : List Clause) (r : List ℕ) (n from hd body m : ℕ) (k : Adding v g all r n) (t : Turn v g r (k .left) from hd body m) (x : ℕ)
+    → x ≡ (body - 2 - from) / 2 + (m - body) / 2 + length (headLiteral hd) + 1 → Adding v g all (take (length r - m) (drop m r)) (n + x)
+adding-next v g all r n from hd body m k t x e =
+    let h = here v g r (k .left) from hd body m t in
     let p : length (plainClauses (k .left)) ≡ length h + length (plainClauses (t .later)) =
-    ap length (turn-plain v g r (k .left) from to body m t) ∙ length-append h (plainClauses (t .later)) in
+    ap length (turn-plain v g r (k .left) from hd body m t) ∙ length-append h (plainClauses (t .later)) in
     record {
       left = t .later;
       walk = t .next;
-      sum = omega (arith, k .sum, p, turn-length v g r (k .left) from to body m t);
-      small = omega (arith, k .small, turn-length v g r (k .left) from to body m t, turn-most v g r (k .left) from to body m t, ap length (t .is));
+      sum = omega (arith, k .sum, p, turn-length v g r (k .left) from hd body m t);
+      small = omega (arith, k .small, turn-length v g r (k .left) from hd body m t, turn-most v g r (k .left) from hd body m t, ap length (t .is));
     }
 
 -- writing
@@ -101,21 +101,21 @@ unfolding plainClauses
 filling-end v g all out₀ out r at k e =
     writing-end (plainClauses all) out₀ 2 out at (plainClauses (k .left)) (k .writing) (ap plainClauses (walk-over v g r (k .left) (k .walk) e))
 
-module _ (v g : ℕ) (all : List Clause) (out₀ out : List ℤ) (r : List ℕ) (at from to body m : ℕ) (k : Filling v g all out₀ out r at)
-    (t : Turn v g r (k .left) from to body m) where
-  pub filling-room : 2 + length (plainClauses all) ≤ length out₀ → at + length (here v g r (k .left) from to body m t) ≤ length out
+module _ (v g : ℕ) (all : List Clause) (out₀ out : List ℤ) (r : List ℕ) (at from hd body m : ℕ) (k : Filling v g all out₀ out r at)
+    (t : Turn v g r (k .left) from hd body m) where
+  pub filling-room : 2 + length (plainClauses all) ≤ length out₀ → at + length (here v g r (k .left) from hd body m t) ≤ length out
   filling-room h =
       omega (
         arith,
         writing-room (plainClauses all) out₀ 2 out at (plainClauses (k .left)) (k .writing) h,
-        ap length (turn-plain v g r (k .left) from to body m t) ∙ length-append (here v g r (k .left) from to body m t) (plainClauses (t .later)),
+        ap length (turn-plain v g r (k .left) from hd body m t) ∙ length-append (here v g r (k .left) from hd body m t) (plainClauses (t .later)),
       )
 
-  pub filling-next : (at′ : ℕ) (out′ : List ℤ) → Wrote out at (here v g r (k .left) from to body m t) out′ at′ → Filling v g all out₀ out′ (take (length r - m) (drop m r)) at′
+  pub filling-next : (at′ : ℕ) (out′ : List ℤ) → Wrote out at (here v g r (k .left) from hd body m t) out′ at′ → Filling v g all out₀ out′ (take (length r - m) (drop m r)) at′
   filling-next at′ out′ w =
       record {
         left = t .later;
         walk = t .next;
-        writing = writing-next (plainClauses all) out₀ 2 out at (plainClauses (k .left)) (k .writing) (here v g r (k .left) from to body m t) (plainClauses (t .later)) out′ at′
-            (turn-plain v g r (k .left) from to body m t) w;
+        writing = writing-next (plainClauses all) out₀ 2 out at (plainClauses (k .left)) (k .writing) (here v g r (k .left) from hd body m t) (plainClauses (t .later)) out′ at′
+            (turn-plain v g r (k .left) from hd body m t) w;
       }

@@ -1,4 +1,4 @@
-// The only functions that touch signed numbers: whoever calls them works on numbers without a sign.
+// The only functions of the calls that compute with signed numbers: whoever calls them works on numbers without a sign.
 ghost use mathlib.Core.Path.{_≡_};
 ghost use Prim.Native.Nat.{_<_, _%_};
 ghost use lib.IntN.{pos, negℤ, natAbs};

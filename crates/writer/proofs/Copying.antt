@@ -3,7 +3,7 @@
 --   clause-wrote                a clause's field: its front, its groups, its head, its body
 --   header-wrote                the header
 --   Copying                     the invariant of `put_clauses`: t is the plain form of the clauses that are left
---   Copy, copying-..            what it says at a clause, its next turn, its start and its end
+--   Copy, copy, copy-..         what it says at a clause, its next turn, its start and its end
 -- Assumes nothing.
 use Prim.Native.Nat.{ℕ, zero, suc, _+_, _-_, _*_, _%_, _≤_, _<_}
 use mathlib.Core.Path.{_≡_, refl, sym, ap, _∙_}

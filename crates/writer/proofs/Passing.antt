@@ -1,7 +1,8 @@
 -- What holds as a plain form is taken clause by clause.
 --   takenFrom v g n a      what is to be answered, where the book has n bytes so far and a is what is left
 --   Passing                the invariant of `take_clauses`: t is what is left, from index i on, with room for `left` clauses
---   passing-..             its start, its ways out and its next turn
+--   scan-closed            what a scan that found nothing wrong says
+--   Next, passing-..       its start, its ways out and its next turn
 --   take-..                the whole plain form, by its first two numbers
 -- Assumes nothing.
 use Prim.Native.Nat.{ℕ, zero, suc, _+_, _-_, _*_, _%_, _≤_, _<_}

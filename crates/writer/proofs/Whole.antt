@@ -1,9 +1,9 @@
 -- What writing a plain form to a book answers and leaves, by what the plain form is.
 --   taken-refused         a refusal is the plain form's
 --   Took, took            a plain form is taken, and its numbers are the answer's
---   ready                 so the clauses can be written
+--   Ready, ready          so the clauses can be written
 --   write-refused, write-long, write-short, write-written      the four ways
---   write-one             the contract of `write` determines its answer and the space
+--   Write, write-one      the contract of `write`; it determines its answer and the space
 -- Assumes nothing.
 use Prim.Native.Nat.{ℕ, _+_, _-_, _≤_, _<_}
 use mathlib.Core.Path.{_≡_, refl, sym, ap, _∙_}

@@ -1,4 +1,4 @@
-// A plain form written to a rule book. It is gone through twice: first all of it is tested, and then it is written.
+// A plain form written to a rule book. First all of it is tested, and then it is gone through again and written.
 ghost use mathlib.Core.Path.{_≡_};
 ghost use mathlib.Core.Bool.{not};
 ghost use mathlib.Core.List.{[], _∷_};

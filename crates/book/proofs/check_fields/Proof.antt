@@ -24,6 +24,10 @@ right c = sym (c .before .wrong-field .ensures) ∙ c .if1 .left
 ok : (c : tie.Else1 Inv-loop μ-loop) → FieldOk (c .before .before .before .before .before .args .variables) (c .before .before .before .before .before .args .groups) (c .before .before .loop .left) (now (c .before .before .loop .rest))
 ok c = field-ok _ _ _ _ (right c)
 
+-- the end is three bytes long
+long : (c : tie.Then3 Inv-loop μ-loop) → c .before .before .before .size-of .result ≡ 3
+long c = omega (arith, c .before .before .before .size-of .ensures, ok (c .before .before .before .before) .ends (c .before .if2 .taken))
+
 sub-rest : tie.Need-sub-rest Inv-loop μ-loop
 sub-rest c = search needs
 
@@ -49,16 +53,16 @@ shared-slice-read-if2 : tie.Need-shared-slice-read-if2 Inv-loop μ-loop
 shared-slice-read-if2 c = omega (arith, ok (c .before .before) .start .fits)
 
 add-t17 : tie.Need-add-t17 Inv-loop μ-loop
-add-t17 c = omega (arith, c .before .before .before .before .before .before .loop .inv .inside)
+add-t17 c = omega (arith, ok (c .before .before .before .before) .start .fits, c .before .before .before .size-of .ensures, c .before .before .before .before .before .before .loop .inv .inside)
 
 returns-2 : tie.Need-returns-2 Inv-loop μ-loop
-returns-2 c = passed-after _ _ _ _ _ _ (c .before .before .before .before .before .before .loop .inv) (right (c .before .before .before .before)) _ (c .before .before .before .size-of .ensures) (c .before .if2 .taken) (c .if3 .taken)
+returns-2 c = passed-after _ _ _ _ _ _ (c .before .before .before .before .before .before .loop .inv) (right (c .before .before .before .before)) _ (c .before .before .before .size-of .ensures) (c .before .if2 .taken) (omega (arith, c .if3 .taken, long c))
 
 sub-t18 : tie.Need-sub-t18 Inv-loop μ-loop
 sub-t18 c = omega (arith, c .before .before .before .before .before .before .loop .inv .most)
 
 returns-3 : tie.Need-returns-3 Inv-loop μ-loop
-returns-3 c = passed-done _ _ _ _ _ _ (c .before .before .before .before .before .before .loop .inv) (right (c .before .before .before .before)) _ (c .before .before .before .size-of .ensures) (c .before .if2 .taken) (c .if3 .left)
+returns-3 c = passed-done _ _ _ _ _ _ (c .before .before .before .before .before .before .loop .inv) (right (c .before .before .before .before)) _ (c .before .before .before .size-of .ensures) (c .before .if2 .taken) (omega (arith, c .if3 .left))
 
 sub-rest-2 : tie.Need-sub-rest-2 Inv-loop μ-loop
 sub-rest-2 c = omega (arith, ok (c .before .before .before) .start .fits, c .before .before .size-of .ensures)

@@ -1,9 +1,12 @@
 -- `book::wrong_numbers` meets its contract: at each `return` the tests that led there say which test of the list holds first.
 -- Assumes nothing.
+use mathlib.Core.Path.{_≡_}
+use mathlib.Core.Bool.{not, cond}
 use native.Mathlib.Omega.{arith}
 use denote.Ref.{now}
 use borrow.Author.Tests.{lt-ltb, le-ltb, not-true, not-false}
 use Rattle.answer.specs.Answer.{first}
+use Rattle.book.specs.Reading.{numberTests}
 use Rattle.book.proofs.Tests.{body-within, body-rises}
 use borrow.Author.Needs.{needs}
 use Rattle.book.proofs.wrong_numbers.Statement.{statement}
@@ -48,47 +51,43 @@ part-body-end c = omega (arith, c .size-of .ensures)
 all-within-requires : tie.Need-all-within-requires
 all-within-requires c κs = search needs
 
-returns-3 : tie.Need-returns-3
+is-rising-requires : tie.Need-is-rising-requires
+is-rising-requires c κs = search needs
+
+-- where the group and the head are right, the body's two tests decide
+decided : (c : tie.After-is-rising)
+    → let a = c .before .before .before .before .before .before .before .before .before .args in
+    first (numberTests (a .variables) (a .groups) (now (a .rest))) ≡ cond (not (c .before .all-within .result)) 7 (cond (not (c .is-rising .result)) 8 0)
 unfolding first
-returns-3 c =
+decided c =
+    let r = now (c .before .before .before .before .before .before .before .before .before .args .rest) in
+    let size = c .before .before .before .size-of .ensures in
     simp (
       ← c .before .before .before .before .before .before .before .word-at .ensures,
       ← c .before .before .before .before .before .word-at2 .ensures,
       le-ltb _ _ (c .before .before .before .before .before .before .if1 .left),
       le-ltb _ _ (c .before .before .before .before .if2 .left),
-      body-within (now (c .before .before .before .before .before .before .before .before .before .args .rest)) _ (c .before .before .before .size-of .ensures) _ _ (c .before .all-within .ensures),
-      not-true (c .before .all-within .result) (c .if3 .taken),
+      body-within r _ size _ _ (c .before .all-within .ensures),
+      body-rises r _ size _ (c .is-rising .ensures),
     )
 
-is-rising-requires : tie.Need-is-rising-requires
-is-rising-requires c κs = search needs
+returns-3 : tie.Need-returns-3
+returns-3 c = simp (decided (c .before), not-true (c .before .before .all-within .result) (c .if3 .taken))
 
 returns-4 : tie.Need-returns-4
-unfolding first
 returns-4 c =
     simp (
-      ← c .before .before .before .before .before .before .before .before .before .word-at .ensures,
-      ← c .before .before .before .before .before .before .before .word-at2 .ensures,
-      le-ltb _ _ (c .before .before .before .before .before .before .before .before .if1 .left),
-      le-ltb _ _ (c .before .before .before .before .before .before .if2 .left),
-      body-within (now (c .before .before .before .before .before .before .before .before .before .before .before .args .rest)) _ (c .before .before .before .before .before .size-of .ensures) _ _ (c .before .before .before .all-within .ensures),
-      not-false (c .before .before .before .all-within .result) (c .before .before .if3 .left),
-      body-rises (now (c .before .before .before .before .before .before .before .before .before .before .before .args .rest)) _ (c .before .before .before .before .before .size-of .ensures) _ (c .before .is-rising .ensures),
-      not-true (c .before .is-rising .result) (c .if4 .taken),
+      decided (c .before .before),
+      not-false (c .before .before .before .all-within .result) (c .before .if3 .left),
+      not-true (c .before .before .is-rising .result) (c .if4 .taken),
     )
 
 returns-5 : tie.Need-returns-5
-unfolding first
 returns-5 c =
     simp (
-      ← c .before .before .before .before .before .before .before .before .before .word-at .ensures,
-      ← c .before .before .before .before .before .before .before .word-at2 .ensures,
-      le-ltb _ _ (c .before .before .before .before .before .before .before .before .if1 .left),
-      le-ltb _ _ (c .before .before .before .before .before .before .if2 .left),
-      body-within (now (c .before .before .before .before .before .before .before .before .before .before .before .args .rest)) _ (c .before .before .before .before .before .size-of .ensures) _ _ (c .before .before .before .all-within .ensures),
-      not-false (c .before .before .before .all-within .result) (c .before .before .if3 .left),
-      body-rises (now (c .before .before .before .before .before .before .before .before .before .before .before .args .rest)) _ (c .before .before .before .before .before .size-of .ensures) _ (c .before .is-rising .ensures),
-      not-false (c .before .is-rising .result) (c .if4 .left),
+      decided (c .before .before),
+      not-false (c .before .before .before .all-within .result) (c .before .if3 .left),
+      not-false (c .before .before .is-rising .result) (c .if4 .left),
     )
 
 pub wrong-numbers-spec : {M : Type 1} → statement M
@@ -104,7 +103,7 @@ wrong-numbers-spec =
     part-body-start
     part-body-end
     all-within-requires
-    returns-3
     is-rising-requires
+    returns-3
     returns-4
     returns-5)

@@ -8,18 +8,18 @@
 --   words-two                    one number spelt
 --   words-bytes, bytes-words     numbers and their bytes, both ways
 --   wordBytes-append             of two runs of numbers
---   and-left, and-right          of two tests together
 --   length-words, length-wordBytes      how many
 -- Assumes nothing.
 use Prim.Native.Nat.{ℕ, zero, suc, _+_, _-_, _*_, _/_, _%_, _≤_, _<_}
 use mathlib.Core.Path.{_≡_, refl, ap, _∙_}
 use mathlib.Core.List.{List, [], _∷_, _++_}
-use mathlib.Core.Bool.{Bool, true, false, _&&_, false≢true}
+use mathlib.Core.Bool.{Bool, true, false, _&&_}
 use native.Mathlib.Omega.{arith}
 use lib.ListN.{length, getD, take, drop}
 use lib.Seq.{drop-cons}
 use lib.Dec.{leb, ltb}
 use borrow.Author.Tests.{lt-ltb, le-ltb, le-leb, lt-leb, leb-true, ltb-true}
+use Rattle.answer.proofs.Tests.{and-left, and-right}
 use Rattle.field.specs.Words.{Bytes, word, wordAt, words, wordBytes, within, rising}
 use Rattle.field.proofs.Parts.{part-end}
 
@@ -41,14 +41,6 @@ pub bytes-take : (n : ℕ) (s : List ℕ) → Bytes s → Bytes (take n s)
 bytes-take zero s h = tt
 bytes-take (suc n) [] h = tt
 bytes-take (suc n) (a ∷ s) h = (h .0, bytes-take n s (h .1))
-
-pub and-left : (a b : Bool) → (a && b) ≡ true → a ≡ true
-and-left true b e = refl
-and-left false b e = e
-
-pub and-right : (a b : Bool) → (a && b) ≡ true → b ≡ true
-and-right true b e = e
-and-right false b e = absurd (false≢true e)
 
 pub words-none : (t : List ℕ) → length t < 2 → words t ≡ []
 unfolding words

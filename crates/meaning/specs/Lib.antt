@@ -1,2 +1,6 @@
 -- What the words of document 01 mean.
 pub mod Book
+pub mod Choice
+pub mod Consistent
+pub mod Forced
+pub mod Marks

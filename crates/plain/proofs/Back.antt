@@ -19,7 +19,8 @@ use Rattle.answer.specs.Answer.{Answer, answered, refused, andThen, _⇒_, firs
 use Rattle.answer.proofs.Answers.{never, then-is, unless-is}
 use Rattle.answer.proofs.Tests.{first-clear}
 use Rattle.field.specs.Words.{within, rising}
-use Rattle.field.proofs.Words.{and-left, and-right, one-within, cons-within, cons-rising}
+use Rattle.answer.proofs.Tests.{and-left, and-right}
+use Rattle.field.proofs.Words.{one-within, cons-within, cons-rising}
 use Rattle.meaning.specs.Book.{Clause, Book}
 use Rattle.book.specs.Bytes.{mostVariables, mostGroups, mostClauses, mostBody, GoodClause, GoodClauses, WellFormed}
 use Rattle.book.specs.Reading.{withClauses}

@@ -1,0 +1,5 @@
+-- Laws of the meanings.
+pub mod Choices
+pub mod Marks
+pub mod Forced
+pub mod Deciding

@@ -1,0 +1,3 @@
+-- Laws of the functions on marks.
+pub mod Tests
+pub mod Walks

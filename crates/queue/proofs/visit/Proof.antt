@@ -1,0 +1,124 @@
+-- `queue::visit` meets its contract: the table has the place of the clause, so what stands there is one of the book's.
+-- Assumes nothing.
+use Prim.Native.Nat.{_+_, _-_}
+use mathlib.Core.Path.{sym, _∙_}
+use native.Mathlib.Omega.{arith}
+use denote.Ref.{now}
+use lib.ListN.{length, getD, take, drop}
+use Rattle.book.specs.Walk.{bookOf}
+use Rattle.book.proofs.Walk.{Turn, walk-on, well-formed}
+use Rattle.marks.proofs.Walks.{turn-ready}
+use Rattle.queue.specs.Space.{Placed}
+use Rattle.queue.proofs.Stores.{kept-none}
+use Rattle.queue.proofs.Places.{place-inside, place-walk, kept-turn}
+use borrow.Author.Needs.{needs}
+use Rattle.queue.proofs.visit.Statement.{statement}
+use Rattle.queue.proofs.visit.Tie as tie
+
+-- the clause's place
+place : (c : tie.Start) → Placed (now (c .args .book)) (getD (now (c .args .work)) (1024 + c .args .clause) 0) (c .args .clause)
+place c = c .pre .3 .places _ (c .pre .2)
+
+-- the clause there
+turn : (c : tie.After-groups)
+    → let at = c .before .before .before .before .before .before .before .args in
+    let s = now (at .book) in
+    let k = getD (now (at .work)) (1024 + at .clause) 0 in
+    let d = c .groups .given .0 in
+    Turn (bookOf s .variables) (bookOf s .groups) (take (length s - k) (drop k s)) (drop (at .clause) (bookOf s .clauses)) (d .0) (d .1 .0) (d .1 .1 .0) (d .1 .1 .1 .0)
+turn c = walk-on _ _ _ _ _ _ _ _ (place-walk _ (c .before .before .before .before .before .before .before .pre .0) _ (c .before .before .before .before .before .before .before .args .clause) (place (c .before .before .before .before .before .before .before))) (sym (c .before .before .front-of .ensures) ∙ c .groups .given .1)
+
+add-entry : tie.Need-add-entry
+add-entry c = search needs
+
+mul-place : tie.Need-mul-place
+mul-place c = search needs
+
+slice-read-place : tie.Need-slice-read-place
+slice-read-place c = let p = c .before .before .before .pre in omega (arith, p .2, p .3 .room, well-formed _ (p .0) .clauses)
+
+cast-place : tie.Need-cast-place
+cast-place c = omega (arith, c .slice-known2 .given (1024 + c .before .before .before .args .clause))
+
+sub-rest : tie.Need-sub-rest
+sub-rest c = place-inside _ _ (c .before .before .before .args .clause) (place (c .before .before .before))
+
+part-rest-start : tie.Need-part-rest-start
+part-rest-start c = place-inside _ _ (c .before .before .before .args .clause) (place (c .before .before .before))
+
+part-rest-end : tie.Need-part-rest-end
+part-rest-end c = search needs
+
+front-of-requires : tie.Need-front-of-requires
+front-of-requires c κs = search needs
+
+enum-told : tie.Need-enum-told
+enum-told c = search needs
+
+enum-known-groups : tie.Need-enum-known-groups
+enum-known-groups c = search needs
+
+sub-last : tie.Need-sub-last
+sub-last c = omega (arith, turn (c .before) .before)
+
+sub-step : tie.Need-sub-step
+sub-step c = omega (arith, turn (c .before) .before)
+
+part-step-start : tie.Need-part-step-start
+part-step-start c = omega (arith, turn (c .before) .before)
+
+part-step-end : tie.Need-part-step-end
+part-step-end c = omega (arith, turn (c .before) .before, turn (c .before) .least, turn (c .before) .fits)
+
+sub-step-2 : tie.Need-sub-step-2
+sub-step-2 c = turn (c .before .before) .least
+
+part-step-start-2 : tie.Need-part-step-start-2
+part-step-start-2 c = turn (c .before .before) .least
+
+part-step-end-2 : tie.Need-part-step-end-2
+part-step-end-2 c = turn (c .before .before) .fits
+
+step-requires : tie.Need-step-requires
+step-requires c κs =
+    let p = c .before .before .before .before .before .before .before .before .before .before .before .pre in
+    let good = well-formed _ (p .0) in
+    let k = turn-ready _ _ _ _ _ _ _ _ (turn (c .before .before .before .before)) 32 (good .groups) in
+    (omega (arith, p .2, good .clauses), k .groups, omega (arith, k .head, p .1), rw (p .1) (k .body), omega (arith, p .1, good .variables), p .3 .room)
+
+returns : tie.Need-returns
+returns c = kept-none _ _ _ (c .before .before .before .before .before .before .before .pre .3)
+
+same-length : tie.Need-same-length
+same-length c = c .before .before .step .ensures .long
+
+returns-2 : tie.Need-returns-2
+returns-2 c =
+    let p = c .before .before .before .before .before .before .before .before .before .before .before .before .before .before .pre in
+    kept-turn _ _ _ _ _ _ (c .before .before .before .before .before .before .before .before .before .before .before .before .before .before .args .clause) _ _ _ _ (p .0) (p .1) (p .3) (turn (c .before .before .before .before .before .before .before)) (c .before .before .step .ensures)
+
+pub visit-spec : {M : Type 1} → statement M
+visit-spec =
+    tie.close
+    (tie.spec
+    add-entry
+    mul-place
+    slice-read-place
+    cast-place
+    sub-rest
+    part-rest-start
+    part-rest-end
+    front-of-requires
+    enum-told
+    enum-known-groups
+    sub-last
+    sub-step
+    part-step-start
+    part-step-end
+    sub-step-2
+    part-step-start-2
+    part-step-end-2
+    step-requires
+    returns
+    same-length
+    returns-2)

@@ -1,0 +1,3 @@
+-- What the working space holds, and what forcing answers.
+pub mod Space
+pub mod Forcing

@@ -1,0 +1,59 @@
+-- `admit::lacking` meets its contract. The loop's invariant: no group up to g is lacking.
+-- Assumes nothing.
+use Prim.Native.Nat.{_-_, _≤_}
+use mathlib.Core.Path.{_≡_, refl, sym, _∙_}
+use native.Mathlib.Omega.{arith}
+use Rattle.admit.specs.Admits.{lacking}
+use Rattle.admit.proofs.Admits.{lack-here, lack-next, lack-none}
+use borrow.Author.Needs.{needs}
+use Rattle.admit.proofs.lacking.Statement.{statement}
+use Rattle.admit.proofs.lacking.Tie as tie
+
+abbrev Inv-loop : tie.InvT-loop
+Inv-loop groups choice g₀ g = (lacking groups choice ≡ lacking g choice) × (g ≤ 32)
+
+abbrev μ-loop : tie.MeasureT-loop
+μ-loop groups choice g₀ g = 32 - g
+
+loop-holds : tie.Need-loop-holds Inv-loop μ-loop
+loop-holds c = (refl, c .pre)
+
+cast-k : tie.Need-cast-k Inv-loop μ-loop
+cast-k c = search needs
+
+shr-if1 : tie.Need-shr-if1 Inv-loop μ-loop
+shr-if1 c = search needs
+
+add-result : tie.Need-add-result Inv-loop μ-loop
+add-result c = search needs
+
+returns : tie.Need-returns Inv-loop μ-loop
+returns c = lack-here (c .before .before .loop .g) (c .before .before .before .args .choice) (omega (arith, c .before .loop-test .taken)) (c .if1 .taken) ∙ sym (c .before .before .loop .inv .0)
+
+add-g : tie.Need-add-g Inv-loop μ-loop
+add-g c = search needs
+
+loop-less : tie.Need-loop-less Inv-loop μ-loop
+loop-less c = search needs
+
+loop-again : tie.Need-loop-again Inv-loop μ-loop
+loop-again c = (c .before .before .loop .inv .0 ∙ lack-next (c .before .before .loop .g) (c .before .before .before .args .choice) (omega (arith, c .before .loop-test .taken)) (c .if1 .left), omega (arith, c .before .loop-test .taken))
+
+returns-2 : tie.Need-returns-2 Inv-loop μ-loop
+returns-2 c = lack-none _ _ (c .loop-test .left) ∙ sym (c .before .loop .inv .0)
+
+pub lacking-spec : {M : Type 1} → statement M
+lacking-spec =
+    tie.close
+    (tie.spec
+    Inv-loop
+    μ-loop
+    loop-holds
+    cast-k
+    shr-if1
+    add-result
+    returns
+    add-g
+    loop-less
+    loop-again
+    returns-2)

@@ -1,0 +1,3 @@
+-- Laws of asking about a choice.
+pub mod Answering
+pub mod Asks

@@ -1,0 +1,2 @@
+-- What asking about a choice answers.
+pub mod Asks

@@ -833,6 +833,14 @@ def section_h():
 
 # ---------------------------------------------------------------- the two files and the table
 
+def store(made, expected):
+    """Writes the two files that the usage names."""
+    with open(sys.argv[1], 'wb') as out:
+        out.write(made)
+    with open(sys.argv[2], 'w', newline='\n') as out:
+        out.write(''.join(line + '\n' for line in expected))
+
+
 def table(counts, title):
     print(title)
     keys = ['book', 'count', 1, 2, 3, 4, 5, 6, 7, 8, 9, 11, 12, 13]
@@ -849,10 +857,7 @@ def main():
         section(letter)
         make()
     section('end')
-    with open(sys.argv[1], 'wb') as out:
-        out.write(cases)
-    with open(sys.argv[2], 'w', newline='\n') as out:
-        out.write(''.join(line + '\n' for line in lines))
+    store(cases, lines)
     table(tally, 'all cases')
     table(tally_h, 'section h alone (1 and 6 need inputs that are not small)')
     for (letter, n, size), (_, n2_, size2) in zip(sections, sections[1:]):
@@ -872,4 +877,5 @@ def main():
     sys.exit(1 if failed else 0)
 
 
-main()
+if __name__ == '__main__':
+    main()

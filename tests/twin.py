@@ -1,13 +1,14 @@
-"""Rule books: check, read, write.  Document 01 as docs/DECISIONS.md reads it.
+"""Rule books: check, read, write, ask.  Document 01 as docs/DECISIONS.md reads it.
 
 Answers are tuples:
   check(book)         -> ('book', variables, groups, clauses)  or ('refused', number, place)
   read(book, space)   -> ('count', numbers written)            or ('refused', number, place)
   write(plain, space) -> ('count', bytes written)              or ('refused', number, place)
-book: bytes.  plain: list of i32.  space: a list, changed in place, never on a refusal.
+  ask(book, choice, out, work) -> ('consistent',) or ('contradiction', clause)  or ('refused', number, place)
+book: bytes.  plain: list of i32.  choice: group g adds 2^(g-1).  space, out, work: lists, changed in place, never on a refusal.
 """
 
-BOOK_BYTES, VARIABLES, GROUPS, CLAUSES, BODY = 65535, 1024, 32, 2048, 32
+BOOK_BYTES, VARIABLES, GROUPS, CLAUSES, BODY, WORDS = 65535, 1024, 32, 2048, 32, 8192
 END, HEADER, CLAUSE = 0, 1, 2
 
 
@@ -132,7 +133,31 @@ def to_book(variables, groups, clauses):
     return book + field(END, [])
 
 
-# ---------------------------------------------------------------- the three calls
+# ---------------------------------------------------------------- asking: clauses in force, forced variables
+
+def in_choice(group, choice):
+    return choice // 2 ** (group - 1) % 2 == 1
+
+
+def in_force(clauses, choice):
+    """The clauses of group 0 and of the chosen groups, each as (its number, body, head)."""
+    return [(number, body, head) for number, (group, body, head) in enumerate(clauses, 1)
+            if group == 0 or in_choice(group, choice)]
+
+
+def forced_variables(clauses):
+    """The least set closed under the clauses with a head; a broken goal stops nothing."""
+    forced, closed = set(), False
+    while not closed:
+        closed = True
+        for _, body, head in clauses:
+            if head != 0 and head not in forced and all(v in forced for v in body):
+                forced.add(head)
+                closed = False
+    return forced
+
+
+# ---------------------------------------------------------------- the calls
 
 def put(written, space):
     refuse_if(len(written) > len(space), 11, 0)                             # 11 lent space too small
@@ -165,3 +190,19 @@ def write(plain, space):
         return put(book, space)
     except Refused as refused:
         return refused.answer()
+
+
+def ask(book, choice, out, work):
+    try:
+        variables, groups, clauses = walk(book)
+        for group in range(groups + 1, GROUPS + 1):
+            refuse_if(in_choice(group, choice), 10, group)                  # 10 the lowest group the book lacks
+        refuse_if(len(out) < variables or len(work) < WORDS, 11, 0)         # 11 after 10
+    except Refused as refused:
+        return refused.answer()
+    clauses = in_force(clauses, choice)
+    forced = forced_variables(clauses)
+    broken = [number for number, body, head in clauses if head == 0 and all(v in forced for v in body)]
+    out[:variables] = [1 if v in forced else 0 for v in range(1, variables + 1)]
+    work[:WORDS] = [0] * WORDS
+    return ('contradiction', min(broken)) if broken else ('consistent',)

@@ -1,3 +1,4 @@
 -- Document 01's cases, computed.
 pub mod BookX
 pub mod Refusals
+pub mod Choices

@@ -1,11 +1,11 @@
--- `book_cases::take_bytes` is safe and ends.
+-- `case_io::take_bytes` is safe and ends.
 -- Assumes nothing.
 use mathlib.Core.Path.{_≡_}
 use Prim.Native.Nat.{_≤_, _-_}
 use lib.ListN.{length}
 use borrow.Author.Needs.{needs}
-use Rattle.book_cases.proofs.take_bytes.Statement.{statement}
-use Rattle.book_cases.proofs.take_bytes.Tie as tie
+use Rattle.case_io.proofs.take_bytes.Statement.{statement}
+use Rattle.case_io.proofs.take_bytes.Tie as tie
 
 abbrev Inv-loop : tie.InvT-loop
 Inv-loop n buffer₀ at₀ k₀ buffer at k = (k ≤ 100000) × (length buffer ≡ length buffer₀)

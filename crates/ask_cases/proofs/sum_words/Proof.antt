@@ -1,10 +1,10 @@
--- `book_cases::sum_bytes` is safe and ends.
+-- `ask_cases::sum_words` is safe and ends.
 -- Assumes nothing.
 use Prim.Native.Nat.{_≤_, _-_}
 use lib.ListN.{length}
 use borrow.Author.Needs.{needs}
-use Rattle.book_cases.proofs.sum_bytes.Statement.{statement}
-use Rattle.book_cases.proofs.sum_bytes.Tie as tie
+use Rattle.ask_cases.proofs.sum_words.Statement.{statement}
+use Rattle.ask_cases.proofs.sum_words.Tie as tie
 
 abbrev Inv-loop : tie.InvT-loop
 Inv-loop s sum₀ k₀ sum k = k ≤ length s
@@ -15,11 +15,14 @@ abbrev μ-loop : tie.MeasureT-loop
 loop-holds : tie.Need-loop-holds Inv-loop μ-loop
 loop-holds c = search needs
 
-shared-slice-read-wide : tie.Need-shared-slice-read-wide Inv-loop μ-loop
-shared-slice-read-wide c = search needs
+mul-wide-word : tie.Need-mul-wide-word Inv-loop μ-loop
+mul-wide-word c = search needs
 
-wide-requires : tie.Need-wide-requires Inv-loop μ-loop
-wide-requires c κs = search needs
+shared-slice-read-wide-word : tie.Need-shared-slice-read-wide-word Inv-loop μ-loop
+shared-slice-read-wide-word c = search needs
+
+wide-word-requires : tie.Need-wide-word-requires Inv-loop μ-loop
+wide-word-requires c κs = search needs
 
 added-requires : tie.Need-added-requires Inv-loop μ-loop
 added-requires c κs = search needs
@@ -36,15 +39,16 @@ loop-again c = search needs
 returns : tie.Need-returns Inv-loop μ-loop
 returns c = search needs
 
-pub sum-bytes-spec : {M : Type 1} → statement M
-sum-bytes-spec =
+pub sum-words-spec : {M : Type 1} → statement M
+sum-words-spec =
     tie.close
     (tie.spec
     Inv-loop
     μ-loop
     loop-holds
-    shared-slice-read-wide
-    wide-requires
+    mul-wide-word
+    shared-slice-read-wide-word
+    wide-word-requires
     added-requires
     add-k
     loop-less

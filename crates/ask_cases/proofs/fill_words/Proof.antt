@@ -1,28 +1,30 @@
--- `book_cases::fill_bytes` is safe and ends.
+-- `ask_cases::fill_words` is safe and ends.
 -- Assumes nothing.
 use mathlib.Core.Path.{_≡_}
 use Prim.Native.Nat.{_≤_, _-_}
-use lib.ListN.{length}
+use lib.ListN.{length, length-set}
 use native.Mathlib.Omega.{arith}
-use lib.ListN.{length-set}
 use borrow.Author.Needs.{needs}
-use Rattle.book_cases.proofs.fill_bytes.Statement.{statement}
-use Rattle.book_cases.proofs.fill_bytes.Tie as tie
+use Rattle.ask_cases.proofs.fill_words.Statement.{statement}
+use Rattle.ask_cases.proofs.fill_words.Tie as tie
 
 abbrev Inv-loop : tie.InvT-loop
-Inv-loop out₀ k₀ out k = (k ≤ length out) × (length out ≡ length out₀)
+Inv-loop work₀ k₀ work k = (k ≤ length work) × (length work ≡ length work₀)
 
 abbrev μ-loop : tie.MeasureT-loop
-μ-loop out₀ k₀ out k = length out₀ - k
+μ-loop work₀ k₀ work k = length work₀ - k
 
 loop-holds : tie.Need-loop-holds Inv-loop μ-loop
 loop-holds c = search needs
 
-before-requires : tie.Need-before-requires Inv-loop μ-loop
-before-requires c κs = search needs
+word-before-requires : tie.Need-word-before-requires Inv-loop μ-loop
+word-before-requires c κs = search needs
 
-slice-write-out : tie.Need-slice-write-out Inv-loop μ-loop
-slice-write-out c = search needs
+mul-work : tie.Need-mul-work Inv-loop μ-loop
+mul-work c = search needs
+
+slice-write-work : tie.Need-slice-write-work Inv-loop μ-loop
+slice-write-work c = search needs
 
 add-k : tie.Need-add-k Inv-loop μ-loop
 add-k c = search needs
@@ -39,15 +41,16 @@ same-length c = search needs
 returns : tie.Need-returns Inv-loop μ-loop
 returns c = search needs
 
-pub fill-bytes-spec : {M : Type 1} → statement M
-fill-bytes-spec =
+pub fill-words-spec : {M : Type 1} → statement M
+fill-words-spec =
     tie.close
     (tie.spec
     Inv-loop
     μ-loop
     loop-holds
-    before-requires
-    slice-write-out
+    word-before-requires
+    mul-work
+    slice-write-work
     add-k
     loop-less
     loop-again

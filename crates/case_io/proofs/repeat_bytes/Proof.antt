@@ -1,4 +1,4 @@
--- `book_cases::repeat_bytes` is safe and ends.
+-- `case_io::repeat_bytes` is safe and ends.
 -- Assumes nothing.
 use mathlib.Core.Path.{_≡_}
 use Prim.Native.Nat.{_≤_, _-_}
@@ -6,8 +6,8 @@ use lib.ListN.{length}
 use native.Mathlib.Omega.{arith}
 use lib.ListN.{length-set}
 use borrow.Author.Needs.{needs}
-use Rattle.book_cases.proofs.repeat_bytes.Statement.{statement}
-use Rattle.book_cases.proofs.repeat_bytes.Tie as tie
+use Rattle.case_io.proofs.repeat_bytes.Statement.{statement}
+use Rattle.case_io.proofs.repeat_bytes.Tie as tie
 
 abbrev Inv-loop : tie.InvT-loop
 Inv-loop n at end buffer₀ k₀ buffer k = length buffer ≡ length buffer₀

@@ -1,0 +1,2 @@
+-- What the cases put into lent space, and the checksum of it.
+pub mod Fill

@@ -18,7 +18,7 @@ pub enum Admitted {
 }
 
 // The lowest group that the choice names and a book of so many groups lacks; 0 if there is none.
-pub fn lacking(groups: u16, choice: u32) -> u16
+fn lacking(groups: u16, choice: u32) -> u16
     requires { ⌜ groups ≤ 32 ⌝ }
     ensures { λ r. ⌜ r ≡ lacking' groups choice ⌝ }
 {

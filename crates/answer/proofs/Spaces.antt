@@ -2,6 +2,7 @@
 --   written-one                 the answer determines `Written`
 --   fitting-in, fitting-out     what fits, and what does not
 --   fitting-is                  what was found to fit
+--   laid-refused, laid-answered           what is left, by what was to be written
 --   Told, told-refused, told-written      what is answered and left, by what was to be written
 --   told-count, told-all        and the other way round
 --   wrote-none, wrote-one       no store, and one
@@ -46,6 +47,14 @@ module _ {A : Type 0} (room : ℕ) (xs : List A) where
 
 -- what a call answers and leaves, where a is what it is to write
 module _ {A : Type 0} (a : Answer (List A)) (old : List A) where
+  pub laid-refused : (n at : ℕ) → a ≡ refused n at → laid a old ≡ old
+  unfolding laid
+  laid-refused n at e = ap (λ (b : Answer (List A)). laid b old) e
+
+  pub laid-answered : (xs : List A) → a ≡ answered xs → laid a old ≡ over xs old
+  unfolding laid
+  laid-answered xs e = ap (λ (b : Answer (List A)). laid b old) e
+
   abbrev pub Told : Written → List A → Type 0
   Told r new = (writtenIs r ≡ counted a) × (new ≡ laid a old)
 

@@ -18,6 +18,7 @@ use borrow.Author.Tests.{lt-ltb, le-ltb}
 use Rattle.answer.specs.Answer.{Answer, answered, refused, andThen, first}
 use Rattle.answer.specs.Space.{over, laid}
 use Rattle.answer.proofs.Answers.{then-by, then-not, then-is, unless-none, unless-some, unless-is}
+use Rattle.answer.proofs.Spaces.{laid-refused, laid-answered}
 use Rattle.field.specs.Words.{Bytes}
 use Rattle.meaning.specs.Book.{Book}
 use Rattle.meaning.specs.Consistent.{Consistent}
@@ -63,18 +64,10 @@ module _ (s : List ℕ) (x room words : ℕ) where
         (ap (λ (a : Bool). cond a 11 (cond (ltb words workWords) 11 0)) (le-ltb room (bookOf s .variables) (omega (arith, H .variables))) ∙ ap (λ (a : Bool). cond a 11 0) (le-ltb words workWords h))
 
 -- ---- what is told and left
-laid-no : (a : Answer (List ℕ)) (old : List ℕ) (n at : ℕ) → a ≡ refused n at → old ≡ laid a old
-unfolding laid
-laid-no a old n at e = sym (ap (λ (b : Answer (List ℕ)). laid b old) e)
-
-laid-all : (a : Answer (List ℕ)) (xs old new : List ℕ) → a ≡ answered xs → new ≡ over xs old → new ≡ laid a old
-unfolding laid
-laid-all a xs old new e p = p ∙ sym (ap (λ (b : Answer (List ℕ)). laid b old) e)
-
 pub told-no : (a : Answer Book) (x n at : ℕ) (out work : List ℕ) → a ≡ refused n at → Asking a x (Asked·v.Refused n at) out work out work
 unfolding askedIs
 told-no a x n at out work e =
-    (sym (then-not a n at _ e), laid-no _ out n at (then-not a n at _ e), laid-no _ work n at (then-not a n at _ e))
+    (sym (then-not a n at _ e), sym (laid-refused _ out n at (then-not a n at _ e)), sym (laid-refused _ work n at (then-not a n at _ e)))
 
 goals-none : (n : ℕ) → n ≡ 0 → goals n ≡ []
 unfolding goals
@@ -89,7 +82,7 @@ goals-some (suc n) o = refl
 module _ (a : Answer Book) (x : ℕ) (b : Book) (out work out′ work′ : List ℕ) (e : a ≡ answered b) (n : ℕ) (is : n ≡ brokenIn b x)
     (o : out′ ≡ over (forcedIn b x) out) (w : work′ ≡ over zeros work) where
   both : (out′ ≡ laid (andThen a (λ b. answered (forcedIn b x))) out) × (work′ ≡ laid (andThen a (λ b. answered zeros)) work)
-  both = (laid-all _ (forcedIn b x) out out′ (then-by a b _ e) o, laid-all _ zeros work work′ (then-by a b _ e) w)
+  both = (o ∙ sym (laid-answered _ out (forcedIn b x) (then-by a b _ e)), w ∙ sym (laid-answered _ work zeros (then-by a b _ e)))
 
   pub told-none : n ≡ 0 → Asking a x Asked·v.Consistent out work out′ work′
   unfolding askedIs
@@ -162,5 +155,4 @@ module _ (s : List ℕ) (x room words : ℕ) (b : Book) (bytes : Bytes s) (e : a
       subst (Lowest x (forcedIn b x) 1 (b .clauses)) (k .0) (lowest-is x (forcedIn b x) 1 (b .clauses) (k .1))
 
   pub says-forced : Least (b .clauses) x (marked (forcedIn b x)) × (out′ ≡ over (forcedIn b x) out)
-  unfolding laid
-  says-forced = (forcedIn-least b x (asks-heads s x room words b bytes e), A .1 ∙ ap (λ (a : Answer (List ℕ)). laid a out) (then-by _ b _ e))
+  says-forced = (forcedIn-least b x (asks-heads s x room words b bytes e), A .1 ∙ laid-answered _ out (forcedIn b x) (then-by _ b _ e))

@@ -18,7 +18,7 @@ pub enum Asked {
 }
 
 // Writes the marks as bytes.
-pub fn put_forced(marks: &[u16], out: &mut [u8])
+fn put_forced(marks: &[u16], out: &mut [u8])
     requires { ⌜ Flags (now marks) × (length (now marks) ≤ length (now out)) ⌝ }
     ensures { λ _. ⌜ now (out .exit) ≡ over (now (marks .entry)) (now (out .entry)) ⌝ }
 {
@@ -30,7 +30,7 @@ pub fn put_forced(marks: &[u16], out: &mut [u8])
 }
 
 // The lowest broken goal of a choice, or 0, with the forced variables written. Whatever the working space holds, it is cleared before and after.
-pub fn answer(book: &[u8], choice: u32, variables: u16, out: &mut [u8], work: &mut [u16]) -> u16
+fn answer(book: &[u8], choice: u32, variables: u16, out: &mut [u8], work: &mut [u16]) -> u16
     requires { ⌜ IsBook (now book) × (variables ≡ bookOf (now book) .variables) × (variables ≤ length (now out)) × (8192 ≤ length (now work)) ⌝ }
     ensures { λ r. ⌜ (r ≡ brokenIn (bookOf (now (book .entry))) choice)
         × (now (out .exit) ≡ over (forcedIn (bookOf (now (book .entry))) choice) (now (out .entry)))

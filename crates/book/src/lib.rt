@@ -34,7 +34,7 @@ pub enum Checked {
 }
 
 // What is wrong with the field that stands first in `rest`, whatever it is, by number; 0 if nothing is. The same below.
-pub fn wrong_start(rest: &[u8]) -> u8
+fn wrong_start(rest: &[u8]) -> u8
     ensures { λ r. ⌜ r ≡ first (startTests (now (rest .entry))) ⌝ }
 {
     if field::is_short(rest) {
@@ -47,7 +47,7 @@ pub fn wrong_start(rest: &[u8]) -> u8
 }
 
 // What is wrong with the first field of a book.
-pub fn wrong_header(rest: &[u8]) -> u8
+fn wrong_header(rest: &[u8]) -> u8
     ensures { λ r. ⌜ r ≡ wrongHeader (now (rest .entry)) ⌝ }
 {
     let number = wrong_start(rest);
@@ -74,7 +74,7 @@ pub fn wrong_header(rest: &[u8]) -> u8
 }
 
 // What is wrong with a clause's length, and with its number.
-pub fn wrong_shape(rest: &[u8], left: u16) -> u8
+fn wrong_shape(rest: &[u8], left: u16) -> u8
     requires { ⌜ size (now rest) ≤ length (now rest) ⌝ }
     ensures { λ r. ⌜ r ≡ first (shapeTests left (now (rest .entry))) ⌝ }
 {
@@ -95,7 +95,7 @@ pub fn wrong_shape(rest: &[u8], left: u16) -> u8
 }
 
 // What is wrong with a clause's numbers.
-pub fn wrong_numbers(rest: &[u8], variables: u16, groups: u16) -> u8
+fn wrong_numbers(rest: &[u8], variables: u16, groups: u16) -> u8
     requires { ⌜ (size (now rest) ≤ length (now rest)) × (4 ≤ len (now rest)) ⌝ }
     ensures { λ r. ⌜ r ≡ first (numberTests variables groups (now (rest .entry))) ⌝ }
 {
@@ -119,7 +119,7 @@ pub fn wrong_numbers(rest: &[u8], variables: u16, groups: u16) -> u8
 }
 
 // What is wrong with a clause.
-pub fn wrong_clause(rest: &[u8], variables: u16, groups: u16, left: u16) -> u8
+fn wrong_clause(rest: &[u8], variables: u16, groups: u16, left: u16) -> u8
     requires { ⌜ size (now rest) ≤ length (now rest) ⌝ }
     ensures { λ r. ⌜ r ≡ wrongClause variables groups left (now (rest .entry)) ⌝ }
 {
@@ -131,7 +131,7 @@ pub fn wrong_clause(rest: &[u8], variables: u16, groups: u16, left: u16) -> u8
 }
 
 // What is wrong with a field after the header.
-pub fn wrong_field(rest: &[u8], variables: u16, groups: u16, left: u16) -> u8
+fn wrong_field(rest: &[u8], variables: u16, groups: u16, left: u16) -> u8
     ensures { λ r. ⌜ r ≡ wrongField variables groups left (now (rest .entry)) ⌝ }
 {
     let number = wrong_start(rest);

@@ -4,6 +4,7 @@
 --   words-none, spelt            what some bytes spell, by their length
 --   within-.., rising-..         one turn of a test of a part's numbers
 --   cons-.., one-..              a test of a number and of those after it
+--   within-more                  within wider limits
 --   high-byte, low-byte, two-bytes      a number and its two bytes
 --   words-two                    one number spelt
 --   words-bytes, bytes-words     numbers and their bytes, both ways
@@ -136,6 +137,12 @@ within-cons low high w ws e =
 pub cons-within : (low high w : ℕ) (ws : List ℕ) → low ≤ w → w ≤ high → within low high ws ≡ true → within low high (w ∷ ws) ≡ true
 unfolding within
 cons-within low high w ws l h e = simp (le-leb low w l, le-leb w high h, e)
+
+-- what is within limits is within wider ones
+pub within-more : (low a b : ℕ) (ws : List ℕ) → a ≤ b → within low a ws ≡ true → within low b ws ≡ true
+unfolding within
+within-more low a b [] l e = refl
+within-more low a b (w ∷ ws) l e = let k = within-cons low a w ws e in cons-within low b w ws (k .0) (omega (arith, k .1)) (within-more low a b ws l (k .2))
 
 pub rising-cons : (b w : ℕ) (ws : List ℕ) → rising b (w ∷ ws) ≡ true → (b < w) × (rising w ws ≡ true)
 unfolding rising

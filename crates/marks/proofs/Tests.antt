@@ -26,6 +26,7 @@ use Rattle.meaning.specs.Consistent.{every}
 use Rattle.meaning.specs.Forced.{marked, mark, broken}
 use Rattle.meaning.specs.Marks.{firstUnmarked, unmarked}
 use Rattle.meaning.proofs.Choices.{chosen-core, chosen-group, digit-of}
+use Rattle.meaning.proofs.Deciding.{broken-is}
 use Rattle.meaning.proofs.Marks.{every-none, every-first, first-none, first-here, first-later, marked-at, mark-same, mark-on, mark-off, put-none, put-some, put-old, first-some, unmarked-set}
 
 -- a group
@@ -104,17 +105,14 @@ one-less f h l o = omega (arith, unmarked-set f h l (ne-eqb _ _ o))
 -- ---- whether a clause is a broken goal
 module _ (x : ℕ) (gs : List ℕ) (h : ℕ) (ws f : List ℕ) where
   pub unbroken-head : h ≢ 0 → false ≡ broken x f (clauseFrom gs h ws)
-  unfolding broken
-  unbroken-head o = ap (λ (b : Bool). b && every (chosen x) gs && every (marked f) ws) (sym (ne-eqb h 0 o))
+  unbroken-head o = sym (broken-is x f (clauseFrom gs h ws) ∙ ap (λ (b : Bool). b && every (chosen x) gs && every (marked f) ws) (ne-eqb h 0 o))
 
   pub unbroken-off : every (chosen x) gs ≡ false → false ≡ broken x f (clauseFrom gs h ws)
-  unfolding broken
-  unbroken-off e = sym (ap (λ (b : Bool). eqb h 0 && b && every (marked f) ws) e ∙ ap (λ (b : Bool). b && every (marked f) ws) (and-false (eqb h 0)))
+  unbroken-off e = sym (broken-is x f (clauseFrom gs h ws) ∙ ap (λ (b : Bool). eqb h 0 && b && every (marked f) ws) e ∙ ap (λ (b : Bool). b && every (marked f) ws) (and-false (eqb h 0)))
 
   pub broken-if : (v : ℕ) {w : ℕ} → within 1 v ws ≡ true → h ≡ 0 → every (chosen x) gs ≡ true → w ≡ firstUnmarked f ws → eqb w 0 ≡ broken x f (clauseFrom gs h ws)
-  unfolding broken
   broken-if v {w} l g i e = go (ℕ-discrete w 0)
     where
       go : Dec (w ≡ 0) → eqb w 0 ≡ broken x f (clauseFrom gs h ws)
-      go (yes z) = eq-eqb w 0 z ∙ sym (simp (eq-eqb h 0 g, i, all-marked f v ws l (sym e ∙ z)))
-      go (no o) = ne-eqb w 0 o ∙ sym (ap (λ (b : Bool). eqb h 0 && every (chosen x) gs && b) (first-some f ws (λ z. o (e ∙ z))) ∙ and-false (eqb h 0 && every (chosen x) gs))
+      go (yes z) = eq-eqb w 0 z ∙ sym (broken-is x f (clauseFrom gs h ws) ∙ simp (eq-eqb h 0 g, i, all-marked f v ws l (sym e ∙ z)))
+      go (no o) = ne-eqb w 0 o ∙ sym (broken-is x f (clauseFrom gs h ws) ∙ ap (λ (b : Bool). eqb h 0 && every (chosen x) gs && b) (first-some f ws (λ z. o (e ∙ z))) ∙ and-false (eqb h 0 && every (chosen x) gs))

@@ -16,22 +16,17 @@ use mathlib.Core.List.{List, [], _∷_, List·Memᴰ, List·Memᴰ·not-nil, Lis
 use native.Mathlib.Omega.{arith}
 use lib.ListN.{length, take, drop}
 use Rattle.field.specs.Words.{words, within}
-use Rattle.field.proofs.Words.{within-cons, cons-within}
+use Rattle.field.proofs.Words.{within-more}
 use Rattle.meaning.specs.Book.{Clause, Book, clauseFrom}
 use Rattle.meaning.specs.Forced.{mark, pass, broken, lowest, forcedIn}
 use Rattle.meaning.specs.Marks.{Partly, unmarked}
-use Rattle.meaning.proofs.Marks.{Heads, AllQuiet, length-mark, unmarked-le, pass-or}
+use Rattle.meaning.proofs.Marks.{Heads, AllQuiet, length-mark, pass-none, pass-first, pass-or}
+use Rattle.meaning.proofs.Deciding.{broken-is, lowest-empty, lowest-first}
 use Rattle.meaning.proofs.Forced.{partly-pass, forced-one}
 use Rattle.book.specs.Bytes.{GoodClause, GoodClauses, WellFormed}
 use Rattle.book.specs.Walk.{bookOf, IsBook, frontOf}
 use Rattle.book.specs.declared.Front.the-variants as Front·v
 use Rattle.book.proofs.Walk.{well-formed, Walk, Turn, walk-over}
-
--- what is within limits is within wider ones
-within-more : (low a b : ℕ) (ws : List ℕ) → a ≤ b → within low a ws ≡ true → within low b ws ≡ true
-unfolding within
-within-more low a b [] l e = refl
-within-more low a b (w ∷ ws) l e = let k = within-cons low a w ws e in cons-within low b w ws (k .0) (omega (arith, k .1)) (within-more low a b ws l (k .2))
 
 -- the clause at hand
 module _ (v g : ℕ) (r : List ℕ) (cs : List Clause) (from hd start n : ℕ) (t : Turn v g r cs from hd start n) where
@@ -55,8 +50,7 @@ module _ (v g : ℕ) (r : List ℕ) (cs : List Clause) (from hd start n : ℕ) (
   here-mark x f = simp (t .groups, t .head, t .numbers)
 
   pub here-broken : (x : ℕ) (f : List ℕ) → broken x f here ≡ broken x f (t .now)
-  unfolding broken
-  here-broken x f = simp (t .groups, t .head, t .numbers)
+  here-broken x f = simp (broken-is, t .groups, t .head, t .numbers)
 
 -- ---- each clause adds its mark
 pub record Sweeping (v g x : ℕ) (all : List Clause) (f₀ f r : List ℕ) (n : ℕ) : Type 0 where
@@ -68,19 +62,18 @@ pub record Sweeping (v g x : ℕ) (all : List Clause) (f₀ f r : List ℕ) (n :
 
 pub sweeping-end : (v g x : ℕ) (all : List Clause) (f₀ f r : List ℕ) (n : ℕ) → Sweeping v g x all f₀ f r n → frontOf r ≡ Front·v.End
     → (f ≡ pass x all f₀) × (n + unmarked f ≡ unmarked f₀)
-unfolding pass
-sweeping-end v g x all f₀ f r n k e = (sym (ap (λ (l : List Clause). pass x l f) (walk-over v g r (k .left) (k .walk) e)) ∙ k .so-far, k .count)
+sweeping-end v g x all f₀ f r n k e =
+    (sym (pass-none x f) ∙ sym (ap (λ (l : List Clause). pass x l f) (walk-over v g r (k .left) (k .walk) e)) ∙ k .so-far, k .count)
 
 pub sweeping-next : (v g x : ℕ) (all : List Clause) (f₀ f r : List ℕ) (n from hd body m : ℕ) (k : Sweeping v g x all f₀ f r n) (t : Turn v g r (k .left) from hd body m)
     (f′ : List ℕ) (i : ℕ) → f′ ≡ mark x (here v g r (k .left) from hd body m t) f → i + unmarked f′ ≡ unmarked f
     → Sweeping v g x all f₀ f′ (take (length r - m) (drop m r)) (n + i)
-unfolding pass
 sweeping-next v g x all f₀ f r n from hd body m k t f′ i e c =
     let is : f′ ≡ mark x (t .now) f = e ∙ here-mark v g r (k .left) from hd body m t x f in
     record {
       left = t .later;
       walk = t .next;
-      so-far = ap (pass x (t .later)) is ∙ sym (ap (λ (l : List Clause). pass x l f) (t .is)) ∙ k .so-far;
+      so-far = ap (pass x (t .later)) is ∙ sym (ap (λ (l : List Clause). pass x l f) (t .is) ∙ pass-first x (t .now) (t .later) f) ∙ k .so-far;
       long = ap length is ∙ length-mark x (t .now) f ∙ k .long;
       count = omega (arith, k .count, c);
     }
@@ -93,15 +86,13 @@ pub record Seeking (v g x : ℕ) (all : List Clause) (f r : List ℕ) (k : ℕ) 
   pub most : k + length left ≤ 2049
 
 pub seeking-none : (v g x : ℕ) (all : List Clause) (f r : List ℕ) (k : ℕ) → Seeking v g x all f r k → frontOf r ≡ Front·v.End → 0 ≡ lowest x f 1 all
-unfolding lowest
-seeking-none v g x all f r k s e = sym (ap (lowest x f k) (walk-over v g r (s .left) (s .walk) e)) ∙ s .so-far
+seeking-none v g x all f r k s e = sym (ap (lowest x f k) (walk-over v g r (s .left) (s .walk) e) ∙ lowest-empty x f k) ∙ s .so-far
 
 module _ (v g x : ℕ) (all : List Clause) (f r : List ℕ) (k from hd body m : ℕ) (s : Seeking v g x all f r k) (t : Turn v g r (s .left) from hd body m) (b : Bool)
     (is : b ≡ broken x f (here v g r (s .left) from hd body m t)) where
   split : lowest x f 1 all ≡ cond b k (lowest x f (k + 1) (t .later))
-  unfolding lowest
   split =
-      sym (s .so-far) ∙ ap (lowest x f k) (t .is)
+      sym (s .so-far) ∙ ap (lowest x f k) (t .is) ∙ lowest-first x f k (t .now) (t .later)
       ∙ ap (λ (c : Bool). cond c k (lowest x f (k + 1) (t .later))) (sym (is ∙ here-broken v g r (s .left) from hd body m t x f))
 
   pub seeking-found : b ≡ true → k ≡ lowest x f 1 all

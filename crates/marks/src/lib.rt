@@ -14,7 +14,7 @@ ghost use Rattle.book.specs.Walk.{bookOf, IsBook};
 use book::Front;
 
 // Whether clauses of a group are to hold.
-pub fn is_chosen(group: u16, choice: u32) -> bool
+fn is_chosen(group: u16, choice: u32) -> bool
     requires { ⌜ group ≤ 32 ⌝ }
     ensures { λ r. ⌜ r ≡ chosen choice group ⌝ }
 {
@@ -59,7 +59,7 @@ pub fn first_unmarked(body: &[u8], marks: &[u16]) -> u16
 }
 
 // A clause adds the mark of its head, if it is in force and its whole body is marked. How many marks were added.
-pub fn mark_clause(groups: &[u8], head: u16, body: &[u8], choice: u32, marks: &mut [u16]) -> u16
+fn mark_clause(groups: &[u8], head: u16, body: &[u8], choice: u32, marks: &mut [u16]) -> u16
     requires { ⌜ (within 0 32 (words (now groups)) ≡ true) × (head ≤ length (now marks)) × (within 1 (length (now marks)) (words (now body)) ≡ true) ⌝ }
     ensures { λ r. ⌜ (now (marks .exit) ≡ mark choice (clauseFrom (words (now (groups .entry))) head (words (now (body .entry)))) (now (marks .entry)))
         × (r + unmarked (now (marks .exit)) ≡ unmarked (now (marks .entry))) ⌝ }
@@ -83,7 +83,7 @@ pub fn mark_clause(groups: &[u8], head: u16, body: &[u8], choice: u32, marks: &m
 }
 
 // Whether a clause is a broken goal.
-pub fn is_broken(groups: &[u8], head: u16, body: &[u8], choice: u32, marks: &[u16]) -> bool
+fn is_broken(groups: &[u8], head: u16, body: &[u8], choice: u32, marks: &[u16]) -> bool
     requires { ⌜ (within 0 32 (words (now groups)) ≡ true) × (within 1 (length (now marks)) (words (now body)) ≡ true) ⌝ }
     ensures { λ r. ⌜ r ≡ broken choice (now (marks .entry)) (clauseFrom (words (now (groups .entry))) head (words (now (body .entry)))) ⌝ }
 {
@@ -97,7 +97,7 @@ pub fn is_broken(groups: &[u8], head: u16, body: &[u8], choice: u32, marks: &[u1
 }
 
 // What each clause adds, one after the other. How many marks were added.
-pub fn sweep(book: &[u8], choice: u32, marks: &mut [u16]) -> u16
+fn sweep(book: &[u8], choice: u32, marks: &mut [u16]) -> u16
     requires { ⌜ IsBook (now book) × (length (now marks) ≡ bookOf (now book) .variables) ⌝ }
     ensures { λ r. ⌜ (now (marks .exit) ≡ pass choice (bookOf (now (book .entry)) .clauses) (now (marks .entry)))
         × (r + unmarked (now (marks .exit)) ≡ unmarked (now (marks .entry))) ⌝ }

@@ -1,4 +1,5 @@
 -- The forced variables decide whether a choice is consistent, and what is inside a consistent choice is consistent.
+--   broken-is, lowest-empty, lowest-first      a goal, and goals one after the other
 --   broken-parts, broken-whole      a broken goal, taken apart and put together
 --   consistent-exactly    a choice is consistent exactly if none is broken by the forced variables
 --   consistent-less       what is inside a consistent choice is consistent
@@ -25,6 +26,10 @@ use Rattle.meaning.proofs.Marks.{every-more, Heads}
 use Rattle.meaning.proofs.Forced.{forced-least}
 
 -- a broken goal, taken apart and put together
+pub broken-is : (x : ℕ) (f : List ℕ) (c : Clause) → broken x f c ≡ (eqb (c .head) 0 && inForce x c && every (marked f) (c .body))
+unfolding broken
+broken-is x f c = refl
+
 pub broken-parts : (x : ℕ) (f : List ℕ) (c : Clause) → broken x f c ≡ true → Broken x f c
 unfolding broken
 broken-parts x f c e =
@@ -69,6 +74,14 @@ pub consistent-less : (cs : List Clause) (x y : ℕ) → Inside x y → Consiste
 consistent-less cs x y s C = (C .0, λ c m i. C .1 c m (every-more (chosen x) (chosen y) (c .groups) (chosen-more x y s) i))
 
 -- ---- the lowest broken goal
+pub lowest-empty : (x : ℕ) (f : List ℕ) (k : ℕ) → lowest x f k [] ≡ 0
+unfolding lowest
+lowest-empty x f k = refl
+
+pub lowest-first : (x : ℕ) (f : List ℕ) (k : ℕ) (c : Clause) (cs : List Clause) → lowest x f k (c ∷ cs) ≡ cond (broken x f c) k (lowest x f (k + 1) cs)
+unfolding lowest
+lowest-first x f k c cs = refl
+
 none-first : (x : ℕ) (f : List ℕ) (c : Clause) (cs : List Clause) → broken x f c ≡ false → NoneBroken x f cs → NoneBroken x f (c ∷ cs)
 none-first x f c cs e N d m = go (List·Memᴰ·cases-cons m)
   where

@@ -5,6 +5,7 @@
 --   put-none, put-some, put-old  a head more, by the head
 --   marked-at                    a variable's mark
 --   every-.., first-..           a test of each number, and the first unmarked one, by the first number
+--   pass-none, pass-first        clauses one after the other
 --   in-force-one                 a clause of one group is in force where that group is chosen
 --   ..-under                     a clause, a pass and passes keep to a closed set
 --   unmarked-..                  how many marks are missing
@@ -107,6 +108,15 @@ and-true false = refl
 
 pub in-force-one : (x g h : ℕ) (ws : List ℕ) → inForce x (clauseFrom (g ∷ []) h ws) ≡ chosen x g
 in-force-one x g h ws = every-first (chosen x) g [] ∙ ap (λ (b : Bool). chosen x g && b) (every-none (chosen x)) ∙ and-true (chosen x g)
+
+-- ---- clauses one after the other
+pub pass-none : (x : ℕ) (f : List ℕ) → pass x [] f ≡ f
+unfolding pass
+pass-none x f = refl
+
+pub pass-first : (x : ℕ) (c : Clause) (cs : List Clause) (f : List ℕ) → pass x (c ∷ cs) f ≡ pass x cs (mark x c f)
+unfolding pass
+pass-first x c cs f = refl
 
 -- ---- every mark is in the set b
 pub put-under : (b : ℕ → Bool) (f : List ℕ) (h : ℕ) → Under b f → ((k : ℕ) → h ≡ suc k → b (suc k) ≡ true) → Under b (put f h)

@@ -14,7 +14,7 @@ use book::Checked;
 use book::Front;
 
 // Writes the numbers of a part from `at` on, as they are or below 0, and gives the place after them. The same below.
-pub fn put_numbers(part: &[u8], below: bool, out: &mut [i32], at: usize) -> usize
+fn put_numbers(part: &[u8], below: bool, out: &mut [i32], at: usize) -> usize
     requires { ⌜ at + length (words (now part)) ≤ length (now out) ⌝ }
     ensures { λ r. ⌜ Wrote (now (out .entry)) at (each (signOf below) (words (now (part .entry)))) (now (out .exit)) r ⌝ }
 {
@@ -30,7 +30,7 @@ pub fn put_numbers(part: &[u8], below: bool, out: &mut [i32], at: usize) -> usiz
 }
 
 // Writes a head, if there is one.
-pub fn put_head(head: u16, out: &mut [i32], at: usize) -> usize
+fn put_head(head: u16, out: &mut [i32], at: usize) -> usize
     requires { ⌜ at + length (headLiteral head) ≤ length (now out) ⌝ }
     ensures { λ r. ⌜ Wrote (now (out .entry)) at (headLiteral head) (now (out .exit)) r ⌝ }
 {
@@ -42,7 +42,7 @@ pub fn put_head(head: u16, out: &mut [i32], at: usize) -> usize
 }
 
 // Writes a clause.
-pub fn put_clause(groups: &[u8], head: u16, body: &[u8], out: &mut [i32], at: usize) -> usize
+fn put_clause(groups: &[u8], head: u16, body: &[u8], out: &mut [i32], at: usize) -> usize
     requires { ⌜ at + length (plainClause (clauseFrom (words (now groups)) head (words (now body)))) ≤ length (now out) ⌝ }
     ensures { λ r. ⌜ Wrote (now (out .entry)) at (plainClause (clauseFrom (words (now (groups .entry))) head (words (now (body .entry))))) (now (out .exit)) r ⌝ }
 {
@@ -54,7 +54,7 @@ pub fn put_clause(groups: &[u8], head: u16, body: &[u8], out: &mut [i32], at: us
 }
 
 // Writes the clauses of an accepted book from 2 on.
-pub fn put_clauses(book: &[u8], out: &mut [i32]) -> usize
+fn put_clauses(book: &[u8], out: &mut [i32]) -> usize
     requires { ⌜ IsBook (now book) ⌝ }
     requires { ⌜ 2 + length (plainClauses (bookOf (now book) .clauses)) ≤ length (now out) ⌝ }
     ensures { λ r. ⌜ Wrote (now (out .entry)) 2 (plainClauses (bookOf (now (book .entry)) .clauses)) (now (out .exit)) r ⌝ }
@@ -81,7 +81,7 @@ pub fn put_clauses(book: &[u8], out: &mut [i32]) -> usize
 }
 
 // How many numbers a clause is in plain form: its groups, its body, its head, and 0.
-pub fn clause_length(groups: usize, head: u16, body: usize, size: usize) -> usize
+fn clause_length(groups: usize, head: u16, body: usize, size: usize) -> usize
     requires { ⌜ (groups + 2 ≤ body) × (body ≤ size) × (size ≤ 65535) ⌝ }
     ensures { λ r. ⌜ r ≡ (body - 2 - groups) / 2 + (size - body) / 2 + length (headLiteral head) + 1 ⌝ }
 {
@@ -93,7 +93,7 @@ pub fn clause_length(groups: usize, head: u16, body: usize, size: usize) -> usiz
 }
 
 // How many numbers an accepted book is in plain form.
-pub fn plain_length(book: &[u8]) -> usize
+fn plain_length(book: &[u8]) -> usize
     requires { ⌜ IsBook (now book) ⌝ }
     ensures { λ r. ⌜ r ≡ length (plainOf (bookOf (now (book .entry)))) ⌝ }
 {

@@ -34,7 +34,7 @@ pub fn put_plus(n: u16, out: &mut [i32], at: usize)
 }
 
 // Writes -n at `at`.
-pub fn put_minus(n: u16, out: &mut [i32], at: usize)
+fn put_minus(n: u16, out: &mut [i32], at: usize)
     requires { ⌜ at < length (now out) ⌝ }
     ensures { λ _. ⌜ now (out .exit) ≡ set (now (out .entry)) at (negℤ (pos n)) ⌝ }
 {

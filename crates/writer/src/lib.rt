@@ -25,7 +25,7 @@ use book::MOST_VARIABLES;
 use signed::Signed;
 
 // What is wrong with a positive literal n, after the head `head` (0 for none), by number; 0 if nothing is. The same below.
-pub fn wrong_head(n: u32, variables: u16, head: u16) -> u8
+fn wrong_head(n: u32, variables: u16, head: u16) -> u8
     ensures { λ r. ⌜ r ≡ first (headTests variables head n) ⌝ }
 {
     if (variables as u32) < n {
@@ -38,7 +38,7 @@ pub fn wrong_head(n: u32, variables: u16, head: u16) -> u8
 }
 
 // What is wrong with a negative literal -n, after the head and `count` others, the last of them -last.
-pub fn wrong_body(n: u32, variables: u16, head: u16, last: u16, count: u16) -> u8
+fn wrong_body(n: u32, variables: u16, head: u16, last: u16, count: u16) -> u8
     ensures { λ r. ⌜ r ≡ first (bodyTests variables head last count n) ⌝ }
 {
     if (variables as u32) < n {
@@ -63,7 +63,7 @@ pub enum Scan {
 }
 
 // The numbers of a clause after its group, from index `at` on.
-pub fn scan_clause(s: &[i32], variables: u16, at: usize) -> Scan
+fn scan_clause(s: &[i32], variables: u16, at: usize) -> Scan
     requires { ⌜ at + length (now s) < 2 ^ 63 ⌝ }
     ensures { λ r. ⌜ r ≡ scanOf 0 (literalsAt variables 0 0 0 at (now (s .entry))) ⌝ }
 {
@@ -111,7 +111,7 @@ pub fn scan_clause(s: &[i32], variables: u16, at: usize) -> Scan
 }
 
 // What is wrong with the number at `at`, which is to be from `low` to `high`.
-pub fn wrong_number(s: &[i32], at: usize, low: u16, high: u16) -> u8
+fn wrong_number(s: &[i32], at: usize, low: u16, high: u16) -> u8
     requires { ⌜ at < length (now s) ⌝ }
     ensures { λ r. ⌜ r ≡ first ((not (between low high (getD (now (s .entry)) at (pos 0))) ⇒ 7) ∷ []) ⌝ }
 {
@@ -143,7 +143,7 @@ pub enum Taken {
 }
 
 // Clause by clause, after the header's two numbers.
-pub fn take_clauses(plain: &[i32], variables: u16, groups: u16) -> Taken
+fn take_clauses(plain: &[i32], variables: u16, groups: u16) -> Taken
     requires { ⌜ (2 ≤ length (now plain)) × (length (now plain) < 2 ^ 62) ⌝ }
     ensures { λ r. ⌜ r ≡ takenOf (andThen (clausesAt variables groups 2048 2 (drop 2 (now (plain .entry)))) (withClauses variables groups)) ⌝ }
 {
@@ -188,7 +188,7 @@ pub fn take_clauses(plain: &[i32], variables: u16, groups: u16) -> Taken
 }
 
 // Takes a plain form: the book that it is, or the refusal.
-pub fn take(plain: &[i32]) -> Taken
+fn take(plain: &[i32]) -> Taken
     ensures { λ r. ⌜ r ≡ takenOf (taking (now (plain .entry))) ⌝ }
 {
     if plain.len() == 0 {
@@ -223,7 +223,7 @@ pub fn take(plain: &[i32]) -> Taken
 }
 
 // Writes numbers without their signs, and gives the place after them. The same below.
-pub fn put_sizes(part: &[i32], out: &mut [u8], at: usize) -> usize
+fn put_sizes(part: &[i32], out: &mut [u8], at: usize) -> usize
     requires { ⌜ at + 2 * length (now part) ≤ length (now out) ⌝ }
     ensures { λ r. ⌜ Wrote (now (out .entry)) at (wordBytes (sizes (now (part .entry)))) (now (out .exit)) r ⌝ }
 {
@@ -238,7 +238,7 @@ pub fn put_sizes(part: &[i32], out: &mut [u8], at: usize) -> usize
 }
 
 // Writes a clause's field.
-pub fn put_clause(groups: &[i32], head: u16, body: &[i32], out: &mut [u8], at: usize) -> usize
+fn put_clause(groups: &[i32], head: u16, body: &[i32], out: &mut [u8], at: usize) -> usize
     requires { ⌜ length (now groups) + length (now body) ≤ 40 ⌝ }
     requires { ⌜ at + (5 + 2 * length (now groups) + 2 * length (now body)) ≤ length (now out) ⌝ }
     ensures { λ r. ⌜ Wrote (now (out .entry)) at (clauseBytes (clauseFrom (sizes (now (groups .entry))) head (sizes (now (body .entry))))) (now (out .exit)) r ⌝ }
@@ -251,7 +251,7 @@ pub fn put_clause(groups: &[i32], head: u16, body: &[i32], out: &mut [u8], at: u
 }
 
 // Writes the clauses of a plain form that was taken, and the end, from 7 on.
-pub fn put_clauses(plain: &[i32], variables: u16, out: &mut [u8]) -> usize
+fn put_clauses(plain: &[i32], variables: u16, out: &mut [u8]) -> usize
     requires { ⌜ IsPlain (now plain) ⌝ }
     requires { ⌜ variables ≡ bookFrom (now plain) .variables ⌝ }
     requires { ⌜ 7 + length (clausesBytes (bookFrom (now plain) .clauses)) ≤ length (now out) ⌝ }
@@ -281,7 +281,7 @@ pub fn put_clauses(plain: &[i32], variables: u16, out: &mut [u8]) -> usize
 }
 
 // Writes the header.
-pub fn put_header(variables: u16, groups: u16, out: &mut [u8]) -> usize
+fn put_header(variables: u16, groups: u16, out: &mut [u8]) -> usize
     requires { ⌜ 7 ≤ length (now out) ⌝ }
     ensures { λ r. ⌜ Wrote (now (out .entry)) 0 (fieldBytes 1 (wordBytes (variables ∷ groups ∷ []))) (now (out .exit)) r ⌝ }
 {

@@ -3,3 +3,4 @@ pub mod Choices
 pub mod Marks
 pub mod Forced
 pub mod Deciding
+pub mod Explanations

@@ -16,11 +16,12 @@
 -- Of a book:
 --   forcedIn b x        its forced variables
 --   brokenIn b x        its lowest broken goal, or 0
+--   inconsistent b x    whether some goal is broken
 -- Assumes nothing: these are definitions.
 use Prim.Native.Nat.{ℕ, zero, suc, _+_}
 use mathlib.Core.Path.{_≡_}
 use mathlib.Core.List.{List, [], _∷_, _++_, List·Memᴰ}
-use mathlib.Core.Bool.{Bool, true, false, _&&_, cond}
+use mathlib.Core.Bool.{Bool, true, false, not, _&&_, cond}
 use lib.ListN.{length, getD, set, replicate}
 use lib.Dec.{eqb}
 use Rattle.meaning.specs.Book.{Clause, Book}
@@ -84,3 +85,6 @@ forcedIn b x = forced (b .variables) (b .clauses) x
 
 unfoldable pub brokenIn : Book → ℕ → ℕ
 brokenIn b x = lowest x (forcedIn b x) 1 (b .clauses)
+
+unfoldable pub inconsistent : Book → ℕ → Bool
+inconsistent b x = not (eqb (brokenIn b x) 0)

@@ -4,3 +4,4 @@ pub mod Choice
 pub mod Consistent
 pub mod Forced
 pub mod Marks
+pub mod Explanation

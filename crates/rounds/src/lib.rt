@@ -1,0 +1,1 @@
+// The round rule: definitions and laws only.

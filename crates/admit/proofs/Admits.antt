@@ -3,13 +3,16 @@
 --   Lacks, lacking-is                    the group that is given is the lowest that the choice names and the book lacks; none is given where there is none
 --   admit-refused, admit-lacks, admit-has      the three ways
 --   admitted-one                         the answer determines `Admitted`
---   twoOf, told-no, told-book            the answer, by what is admitted
+--   twoOf, told-no, told-book            the answer that tells a refusal, and a book's two numbers
+--   admit-no, book-is                    and the other way round
 --   admits-read                          a book that is admitted was read
---   admit-no, Granted, admit-book            what an answer of `admit` says of the bytes and the choice
+--   choice-fits                          and the choice names groups of the book only
+--   Granted, admit-book                  what an answer of `admit` says of the bytes and the choice
 --   clear-none, clear-more               the first words are 0: none of them, and one more
+--   cleared-again, cleared-over          a space that was used, cleared: what stands behind is as it was; its front was used
 -- Assumes nothing.
 use Prim.Native.Nat.{ℕ, zero, suc, _+_, _-_, _/_, _%_, _^_, _≤_, _<_}
-use mathlib.Core.Path.{_≡_, refl, sym, ap, _∙_}
+use mathlib.Core.Path.{_≡_, refl, sym, ap, _∙_, subst}
 use mathlib.Core.Logic.{_≢_, _⊎_, inl, inr}
 use mathlib.Core.List.{List, [], _∷_, _++_}
 use mathlib.Core.Bool.{Bool, true, false, cond, not}
@@ -17,12 +20,14 @@ use native.Mathlib.Omega.{arith}
 use native.Mathlib.Decide.{ℕ-discrete, decLt}
 use lib.Dec.{eqb}
 use lib.ListN.{length, drop, set, replicate, length-replicate}
-use borrow.Author.Tests.{eq-eqb, ne-eqb, eqb-true}
-use borrow.Author.Fill.{fill-none, fill-more}
-use Rattle.answer.specs.Answer.{Answer, answered, refused, andThen, _⇒_, first, unless}
+use lib.Seq.{drop-append-add, drop-drop}
+use lib.Pow.{pow-pos}
+use borrow.Author.Tests.{eq-eqb, ne-eqb, eqb-true, not-false}
+use borrow.Author.Fill.{fill-more}
+use Rattle.answer.specs.Answer.{Answer, answered, refused, andThen, _⇒_, first}
 use Rattle.answer.specs.Space.{over}
 use Rattle.answer.proofs.Answers.{then-by, then-not, then-is, unless-none, unless-some, unless-is}
-use Rattle.answer.proofs.Tests.{clash}
+use Rattle.answer.proofs.Tests.{first-clear, clash}
 use Rattle.field.specs.Words.{Bytes}
 use Rattle.meaning.specs.Book.{Book}
 use Rattle.meaning.specs.Choice.{digit}
@@ -30,7 +35,7 @@ use Rattle.meaning.proofs.Choices.{digit-of, digit-or, digit-high}
 use Rattle.book.specs.Bytes.{mostGroups}
 use Rattle.book.specs.Reading.{reading}
 use Rattle.book.specs.Walk.{taken, bookOf, IsBook}
-use Rattle.admit.specs.Admits.{lackFrom, lacking, admits, admittedIs}
+use Rattle.admit.specs.Admits.{lackFrom, lacking, admits, admittedIs, workWords, zeros}
 use Rattle.admit.specs.declared.Admitted.{Admitted}
 use Rattle.admit.specs.declared.Admitted.the-variants as Admitted·v
 
@@ -42,11 +47,11 @@ module _ (g x : ℕ) (h : g < mostGroups) where
       let fuel : mostGroups - g ≡ suc (mostGroups - (g + 1)) = omega arith in
       ap (λ (k : ℕ). lackFrom k g x) fuel ∙ ap (λ (b : Bool). cond b (g + 1) (lackFrom (mostGroups - (g + 1)) (g + 1) x)) e
 
-  pub lack-here : x / 2 ^ g % 2 ≡ 1 → g + 1 ≡ lacking g x
-  lack-here e = sym (lack-by true (eq-eqb _ _ (digit-of x g ∙ e)))
+  pub lack-here : eqb (digit x g) 1 ≡ true → g + 1 ≡ lacking g x
+  lack-here e = sym (lack-by true e)
 
-  pub lack-next : (x / 2 ^ g % 2 ≡ 1 → ⊥) → lacking g x ≡ lacking (g + 1) x
-  lack-next o = lack-by false (ne-eqb _ _ (λ e. o (sym (digit-of x g) ∙ e)))
+  pub lack-next : eqb (digit x g) 1 ≡ false → lacking g x ≡ lacking (g + 1) x
+  lack-next e = lack-by false e
 
 pub lack-none : (g x : ℕ) → mostGroups ≤ g → 0 ≡ lacking g x
 unfolding lacking lackFrom
@@ -138,33 +143,29 @@ admitted-one (Admitted·v.Refused n q) (Admitted·v.Refused m p) e = cc
 abbrev pub twoOf : Book → Answer (List ℕ)
 twoOf b = answered (b .variables ∷ b .groups ∷ [])
 
-pub told-no : (s : List ℕ) (x n at : ℕ) → admits s x ≡ refused n at → admittedIs (Admitted·v.Refused n at) ≡ andThen (admits s x) twoOf
+pub told-no : (a : Answer Book) (n at : ℕ) → a ≡ refused n at → admittedIs (Admitted·v.Refused n at) ≡ andThen a twoOf
 unfolding admittedIs
-told-no s x n at e = sym (then-not _ n at _ e)
+told-no a n at e = sym (then-not a n at _ e)
 
-pub told-book : (s : List ℕ) (x v g : ℕ) → admits s x ≡ answered (bookOf s) → v ≡ bookOf s .variables → g ≡ bookOf s .groups → admittedIs (Admitted·v.Book v g) ≡ andThen (admits s x) twoOf
+pub told-book : (a : Answer Book) (b : Book) (v g : ℕ) → a ≡ answered b → v ≡ b .variables → g ≡ b .groups → admittedIs (Admitted·v.Book v g) ≡ andThen a twoOf
 unfolding admittedIs
-told-book s x v g e ev eg = sym (then-by _ (bookOf s) _ e ∙ simp (ev, eg))
+told-book a b v g e ev eg = sym (then-by a b _ e ∙ simp (ev, eg))
 
-no-is : (a : Answer Book) (n at : ℕ) → refused n at ≡ andThen a twoOf → a ≡ refused n at
-unfolding andThen
-no-is (answered b) n at e = let z : _≡_ {A = ℕ} 0 1 = cc in absurd (omega arith)
-no-is (refused m p) n at e = cc
+pub admit-no : (a : Answer Book) (n at : ℕ) → admittedIs (Admitted·v.Refused n at) ≡ andThen a twoOf → a ≡ refused n at
+unfolding admittedIs andThen
+admit-no (answered b) n at e = let z : _≡_ {A = ℕ} 0 1 = cc in absurd (omega arith)
+admit-no (refused m p) n at e = cc
 
-pub admit-no : (s : List ℕ) (x n at : ℕ) → admittedIs (Admitted·v.Refused n at) ≡ andThen (admits s x) twoOf → admits s x ≡ refused n at
-unfolding admittedIs
-admit-no s x n at e = no-is (admits s x) n at e
+pub book-is : (a : Answer Book) (v g : ℕ) → admittedIs (Admitted·v.Book v g) ≡ andThen a twoOf → (b : Book) × (a ≡ answered b) × (v ≡ b .variables) × (g ≡ b .groups)
+unfolding admittedIs andThen
+book-is (answered b) v g e = (b, refl, cc, cc)
+book-is (refused m p) v g e = let z : _≡_ {A = ℕ} 0 1 = cc in absurd (omega arith)
 
 pub record Granted (s : List ℕ) (x v g : ℕ) : Type 0 where
   pub is : IsBook s
   pub has : admits s x ≡ answered (bookOf s)
   pub variables : v ≡ bookOf s .variables
   pub groups : g ≡ bookOf s .groups
-
-book-is : (a : Answer Book) (v g : ℕ) → answered (v ∷ g ∷ []) ≡ andThen a twoOf → (b : Book) × (a ≡ answered b) × (v ≡ b .variables) × (g ≡ b .groups)
-unfolding andThen
-book-is (answered b) v g e = (b, refl, cc, cc)
-book-is (refused m p) v g e = let z : _≡_ {A = ℕ} 0 1 = cc in absurd (omega arith)
 
 pub admits-read : (s : List ℕ) (x : ℕ) (b : Book) → admits s x ≡ answered b → reading s ≡ answered b
 unfolding admits
@@ -173,8 +174,31 @@ admits-read s x b e =
     let u = unless-is _ _ (answered (t .0)) b (t .2) in
     t .1 ∙ u .1
 
+-- a number of k digits whose digits from n on are 0
+small : (k n x : ℕ) → x < 2 ^ k → ((i : ℕ) → n ≤ i → digit x i ≡ 0) → x < 2 ^ n
+unfolding digit
+small zero n x h f = omega (arith, h, pow-pos n)
+small (suc k) zero x h f = omega (arith, f 0 (omega arith), small k zero (x / 2) (omega arith) (λ i l. f (suc i) (omega arith)))
+small (suc k) (suc n) x h f = omega (arith, small k n (x / 2) (omega arith) (λ i l. f (suc i) (omega arith)))
+
+pub choice-fits : (s : List ℕ) (x : ℕ) (b : Book) → x < 2 ^ mostGroups → admits s x ≡ answered b → x < 2 ^ b .groups
+unfolding admits
+choice-fits s x b h e =
+    let t = then-is (reading s) _ b e in
+    let u = unless-is _ _ (answered (t .0)) b (t .2) in
+    let z : lacking (t .0 .groups) x ≡ 0 = eqb-true _ _ (not-false _ (first-clear ((not (eqb (lacking (t .0 .groups) x) 0) ⇒ 10) ∷ []) (u .0) .0)) in
+    let same : t .0 ≡ b = answered-same (t .0) b (u .1) in
+    subst (λ (c : Book). x < 2 ^ c .groups) same (small mostGroups (t .0 .groups) x h (go (t .0 .groups) z (lacking-is (t .0 .groups) x h)))
+  where
+    answered-same : (c d : Book) → answered c ≡ answered d → c ≡ d
+    answered-same c d q = cc
+
+    go : (g : ℕ) → lacking g x ≡ 0 → ((lacking g x ≡ 0) × ((i : ℕ) → g ≤ i → digit x i ≡ 0)) ⊎ Lacks g x (lacking g x) → (i : ℕ) → g ≤ i → digit x i ≡ 0
+    go g z (inl w) = w .1
+    go g z (inr L) = absurd (omega (arith, z, L .above))
+
 pub admit-book : (s : List ℕ) (x v g : ℕ) → Bytes s → admittedIs (Admitted·v.Book v g) ≡ andThen (admits s x) twoOf → Granted s x v g
-unfolding admittedIs bookOf taken
+unfolding bookOf taken
 admit-book s x v g bytes e =
     let t = book-is (admits s x) v g e in
     let r : reading s ≡ answered (t .0) = admits-read s x (t .0) (t .1) in
@@ -195,3 +219,15 @@ clear-none w = refl
 
 pub clear-more : (n : ℕ) (w : List ℕ) → n < length w → set (over (replicate n 0) w) n 0 ≡ over (replicate (n + 1) 0) w
 clear-more n w h = ap (λ (l : List ℕ). set l n 0) (over-is n w) ∙ fill-more n 0 w h ∙ sym (over-is (n + 1) w)
+
+pub cleared-again : (n : ℕ) (w u w′ : List ℕ) → n ≡ workWords → drop n u ≡ drop n w → w′ ≡ over (replicate n 0) u → w′ ≡ over zeros w
+unfolding zeros
+cleared-again n w u w′ e kept is = is ∙ over-is n u ∙ ap (λ (l : List ℕ). replicate n 0 ++ l) kept ∙ sym (over-is n w) ∙ ap (λ (k : ℕ). over (replicate k 0) w) e
+
+pub cleared-over : (v : ℕ) (f w w′ : List ℕ) → length f ≡ v → v ≤ workWords → w′ ≡ over (replicate workWords 0) (f ++ drop v w) → w′ ≡ over zeros w
+cleared-over v f w w′ long l is =
+    let a : workWords ≡ length f + (workWords - v) = omega (arith, long) in
+    let b : v + (workWords - v) ≡ workWords = omega arith in
+    cleared-again workWords w (f ++ drop v w) w′ refl
+    (ap (λ (k : ℕ). drop k (f ++ drop v w)) a ∙ drop-append-add f (drop v w) (workWords - v) ∙ drop-drop (workWords - v) v w ∙ ap (λ (k : ℕ). drop k w) b)
+    is

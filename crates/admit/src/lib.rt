@@ -25,7 +25,7 @@ fn lacking(groups: u16, choice: u32) -> u16
     let mut g = groups;
     while g < MOST_GROUPS {
         let k = g as u32;
-        if (choice >> k) % 2 == 1 {
+        if choice::has(choice, k) {
             return g + 1;
         }
         g += 1;

@@ -3,6 +3,8 @@
 --   fitting-in, fitting-out     what fits, and what does not
 --   fitting-is                  what was found to fit
 --   laid-refused, laid-answered           what is left, by what was to be written
+--   length-over                 a space is as long as before where its front is written
+--   over-over                   a front written over one that is no longer
 --   Told, told-refused, told-written      what is answered and left, by what was to be written
 --   told-count, told-all        and the other way round
 --   wrote-none, wrote-one       no store, and one
@@ -12,12 +14,12 @@
 --   Writing                     the invariant of a loop that writes: what is left of all that is to be written
 --   writing-..                  its start, what it says of places, its next turn, its end
 -- Assumes nothing.
-use Prim.Native.Nat.{ℕ, suc, _+_, _≤_, _<_}
+use Prim.Native.Nat.{ℕ, suc, _+_, _-_, _≤_, _<_}
 use mathlib.Core.Path.{_≡_, refl, sym, ap, _∙_}
 use mathlib.Core.List.{List, [], _∷_, _++_, append-nil, append-assoc}
 use native.Mathlib.Omega.{arith}
-use lib.ListN.{length, take, drop, set, length-append}
-use lib.Seq.{sets, sets-eq, length-sets, take-at}
+use lib.ListN.{length, take, drop, set, length-append, length-drop}
+use lib.Seq.{sets, sets-eq, length-sets, take-at, drop-drop, drop-append-add}
 use borrow.Author.Tests.{lt-ltb, le-ltb}
 use Rattle.answer.specs.Answer.{Answer, answered, refused, first, unless}
 use Rattle.answer.specs.Space.{writtenIs, fitting, counted, over, laid, Wrote}
@@ -44,6 +46,18 @@ module _ {A : Type 0} (room : ℕ) (xs : List A) where
   pub fitting-is : (ys : List A) → fitting room xs ≡ answered ys → xs ≡ ys
   unfolding fitting
   fitting-is ys e = let q = unless-is _ 0 (answered xs) ys e .1 in cc
+
+-- the front of a space, written
+module _ {A : Type 0} where
+  pub length-over : (xs old : List A) → length xs ≤ length old → length (over xs old) ≡ length old
+  length-over xs old h = omega (arith, length-append xs (drop (length xs) old), length-drop (length xs) old, h)
+
+  pub over-over : (xs ys us : List A) → length ys ≤ length xs → over xs (over ys us) ≡ over xs us
+  over-over xs ys us h =
+      let d = length xs - length ys in
+      let p : length xs ≡ length ys + d = omega (arith, h) in
+      ap (λ (l : List A). xs ++ l)
+      (ap (λ (k : ℕ). drop k (ys ++ drop (length ys) us)) p ∙ drop-append-add ys (drop (length ys) us) d ∙ drop-drop d (length ys) us ∙ ap (λ (k : ℕ). drop k us) (sym p))
 
 -- what a call answers and leaves, where a is what it is to write
 module _ {A : Type 0} (a : Answer (List A)) (old : List A) where

@@ -21,11 +21,11 @@ use borrow.Author.Tests.{eq-eqb, ne-eqb}
 use Rattle.field.specs.Words.{wordAt, words, within}
 use Rattle.field.proofs.Words.{words-none, spelt, within-cons}
 use Rattle.meaning.specs.Book.{clauseFrom}
-use Rattle.meaning.specs.Choice.{chosen}
+use Rattle.meaning.specs.Choice.{digit, chosen}
 use Rattle.meaning.specs.Consistent.{every}
 use Rattle.meaning.specs.Forced.{marked, mark, broken}
 use Rattle.meaning.specs.Marks.{firstUnmarked, unmarked}
-use Rattle.meaning.proofs.Choices.{chosen-core, chosen-group, digit-of}
+use Rattle.meaning.proofs.Choices.{chosen-core, chosen-group}
 use Rattle.meaning.proofs.Deciding.{broken-is}
 use Rattle.meaning.proofs.Marks.{every-none, every-first, first-none, first-here, first-later, marked-at, mark-same, mark-on, mark-off, put-none, put-some, put-old, first-some, unmarked-set}
 
@@ -33,10 +33,8 @@ use Rattle.meaning.proofs.Marks.{every-none, every-first, first-none, first-her
 pub is-core : (x g : ℕ) → g ≡ 0 → true ≡ chosen x g
 is-core x g e = sym (ap (chosen x) e ∙ chosen-core x)
 
-pub is-group : (x g : ℕ) → g ≢ 0 → eqb (x / 2 ^ (g - 1) % 2) 1 ≡ chosen x g
-is-group x g o =
-    let e : g ≡ suc (g - 1) = omega arith in
-    ap (λ (d : ℕ). eqb d 1) (sym (digit-of x (g - 1))) ∙ sym (ap (chosen x) e ∙ chosen-group x (g - 1))
+pub is-group : (x g : ℕ) → g ≢ 0 → eqb (digit x (g - 1)) 1 ≡ chosen x g
+is-group x g o = let e : g ≡ suc (g - 1) = omega arith in sym (ap (chosen x) e ∙ chosen-group x (g - 1))
 
 -- no number is left
 pub every-end : (a : ℕ → Bool) (t : List ℕ) → length t < 2 → every a (words t) ≡ true

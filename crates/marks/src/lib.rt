@@ -22,7 +22,7 @@ fn is_chosen(group: u16, choice: u32) -> bool
         return true;
     }
     let g = (group - 1) as u32;
-    (choice >> g) % 2 == 1
+    choice::has(choice, g)
 }
 
 // Whether a clause of these groups is in force.

@@ -1,6 +1,6 @@
 -- `admit::admit` meets its contract: the book's refusals, then 10.
 -- Assumes nothing.
-use mathlib.Core.Path.{_≡_, sym, ap, _∙_}
+use mathlib.Core.Path.{sym, ap, _∙_}
 use native.Mathlib.Omega.{arith}
 use denote.Ref.{now}
 use Rattle.field.proofs.Words.{bytes-at}
@@ -34,10 +34,10 @@ cast-t11 : tie.Need-cast-t11
 cast-t11 c = search needs
 
 returns : tie.Need-returns
-returns c = let k = accepted (c .before .before .before) in told-no _ _ _ _ (admit-lacks _ _ (k .is .read) _ _ (k .groups) (c .before .lacking .ensures) (c .if1 .taken))
+returns c = let k = accepted (c .before .before .before) in told-no _ _ _ (admit-lacks _ _ (k .is .read) _ _ (k .groups) (c .before .lacking .ensures) (c .if1 .taken))
 
 returns-2 : tie.Need-returns-2
-returns-2 c = told-no _ _ _ _ (admit-refused _ _ _ _ (check-refused _ _ _ (sym (ap checkedIs (c .before .number .given .1)) ∙ c .before .before .before .check .ensures)))
+returns-2 c = told-no _ _ _ (admit-refused _ _ _ _ (check-refused _ _ _ (sym (ap checkedIs (c .before .number .given .1)) ∙ c .before .before .before .check .ensures)))
 
 returns-3 : tie.Need-returns-3
 returns-3 c = let k = accepted (c .before .before .before) in told-book _ _ _ _ (admit-has _ _ (k .is .read) _ _ (k .groups) (c .before .lacking .ensures) (c .if1 .left)) (k .variables) (k .groups)

@@ -1,13 +1,13 @@
--- `admit::lacking` meets its contract. The loop's invariant: no group up to g is lacking.
+-- `admit::lacking` meets its contract. The loop keeps: no group up to g is lacking.
 -- Assumes nothing.
+use borrow.Author.Needs.{needs}
+use Rattle.admit.proofs.lacking.Statement.{statement}
+use Rattle.admit.proofs.lacking.Tie as tie
 use Prim.Native.Nat.{_-_, _≤_}
 use mathlib.Core.Path.{_≡_, refl, sym, _∙_}
 use native.Mathlib.Omega.{arith}
 use Rattle.admit.specs.Admits.{lacking}
 use Rattle.admit.proofs.Admits.{lack-here, lack-next, lack-none}
-use borrow.Author.Needs.{needs}
-use Rattle.admit.proofs.lacking.Statement.{statement}
-use Rattle.admit.proofs.lacking.Tie as tie
 
 abbrev Inv-loop : tie.InvT-loop
 Inv-loop groups choice g₀ g = (lacking groups choice ≡ lacking g choice) × (g ≤ 32)
@@ -21,14 +21,14 @@ loop-holds c = (refl, c .pre)
 cast-k : tie.Need-cast-k Inv-loop μ-loop
 cast-k c = search needs
 
-shr-if1 : tie.Need-shr-if1 Inv-loop μ-loop
-shr-if1 c = search needs
+has-requires : tie.Need-has-requires Inv-loop μ-loop
+has-requires c κs = omega (arith, c .loop-test .taken)
 
 add-result : tie.Need-add-result Inv-loop μ-loop
 add-result c = search needs
 
 returns : tie.Need-returns Inv-loop μ-loop
-returns c = lack-here (c .before .before .loop .g) (c .before .before .before .args .choice) (omega (arith, c .before .loop-test .taken)) (c .if1 .taken) ∙ sym (c .before .before .loop .inv .0)
+returns c = lack-here (c .before .before .before .loop .g) (c .before .before .before .before .args .choice) (omega (arith, c .before .before .loop-test .taken)) (sym (c .before .has .ensures) ∙ c .if1 .taken) ∙ sym (c .before .before .before .loop .inv .0)
 
 add-g : tie.Need-add-g Inv-loop μ-loop
 add-g c = search needs
@@ -37,7 +37,7 @@ loop-less : tie.Need-loop-less Inv-loop μ-loop
 loop-less c = search needs
 
 loop-again : tie.Need-loop-again Inv-loop μ-loop
-loop-again c = (c .before .before .loop .inv .0 ∙ lack-next (c .before .before .loop .g) (c .before .before .before .args .choice) (omega (arith, c .before .loop-test .taken)) (c .if1 .left), omega (arith, c .before .loop-test .taken))
+loop-again c = (c .before .before .before .loop .inv .0 ∙ lack-next (c .before .before .before .loop .g) (c .before .before .before .before .args .choice) (omega (arith, c .before .before .loop-test .taken)) (sym (c .before .has .ensures) ∙ c .if1 .left), omega (arith, c .before .before .loop-test .taken))
 
 returns-2 : tie.Need-returns-2 Inv-loop μ-loop
 returns-2 c = lack-none _ _ (c .loop-test .left) ∙ sym (c .before .loop .inv .0)
@@ -50,7 +50,7 @@ lacking-spec =
     μ-loop
     loop-holds
     cast-k
-    shr-if1
+    has-requires
     add-result
     returns
     add-g

@@ -1,0 +1,2 @@
+-- Laws of choices in code.
+pub mod Groups

@@ -1,0 +1,2 @@
+-- What code asks of a choice.
+pub mod Groups

@@ -1,0 +1,2 @@
+-- Laws of records as words.
+pub mod Words

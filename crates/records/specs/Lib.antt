@@ -1,0 +1,2 @@
+-- Records as words.
+pub mod Words

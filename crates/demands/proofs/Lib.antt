@@ -1,0 +1,2 @@
+-- Demands 2 and 3, proved.
+pub mod Demands

@@ -1,0 +1,4 @@
+-- Laws of the seed search.
+pub mod Paths
+pub mod Branches
+pub mod Below

@@ -1,0 +1,84 @@
+-- `seek::seek_below` meets its contract. No choice that fits agrees with the last seed from g on.
+-- Assumes nothing.
+use borrow.Author.Needs.{needs}
+use Rattle.seek.proofs.seek_below.Statement.{statement}
+use Rattle.seek.proofs.seek_below.Tie as tie
+use Prim.Native.Nat.{ℕ, suc, _+_, _-_, _≤_}
+use mathlib.Core.Path.{_≡_, refl, sym, _∙_, subst}
+use native.Mathlib.Omega.{arith}
+use lib.ListN.{length}
+use denote.Ref.{now}
+use Rattle.seek.specs.Paths.{Fits}
+use Rattle.records.specs.Words.{recordsOf}
+use Rattle.seek.specs.declared.Sought.{Sought}
+use Rattle.seek.proofs.Below.{at-seed, none-seed, clear-start, ruled-start, clear-end}
+use Rattle.seek.specs.Paths.{Along, Clear, Tries}
+use Rattle.meaning.specs.Choice.{Inside}
+
+abbrev Inv-loop : tie.InvT-loop
+Inv-loop records count groups last why₀ ruled₀ g₀ why ruled g = (g ≤ groups) × (length why ≡ 32) × Along last groups g why × ((z : ℕ) → Fits groups (recordsOf records count) z → Inside ruled z → ⊥) × Clear (Fits groups (recordsOf records count)) last g
+
+abbrev μ-loop : tie.MeasureT-loop
+μ-loop records count groups last why₀ ruled₀ g₀ why ruled g = groups - g
+
+slice-aggregate-lay : tie.Need-slice-aggregate-lay Inv-loop μ-loop
+slice-aggregate-lay c = refl
+
+lay-requires : tie.Need-lay-requires Inv-loop μ-loop
+lay-requires c κs = (c .before .before .pre .1, c .before .before .pre .1)
+
+loop-holds : tie.Need-loop-holds Inv-loop μ-loop
+loop-holds c = (omega arith, c .before .lay .ensures .1, c .before .lay .ensures .0, ruled-start (Fits (c .before .before .before .before .args .groups) (recordsOf (now (c .before .before .before .before .args .records)) (c .before .before .before .before .args .count))) (c .before .before .before .before .args .last) (c .before .before .before .before .pre .3), clear-start (Fits (c .before .before .before .before .args .groups) (recordsOf (now (c .before .before .before .before .args .records)) (c .before .before .before .before .args .count))) (c .before .before .before .before .args .last) (c .before .before .before .before .pre .3))
+
+slice-aggregate-try-below : tie.Need-slice-aggregate-try-below Inv-loop μ-loop
+slice-aggregate-try-below c = sym (c .before .before .loop .inv .1)
+
+try-below-requires : tie.Need-try-below-requires Inv-loop μ-loop
+try-below-requires c κs = (c .before .before .before .before .before .before .before .pre .0, c .before .before .before .before .before .before .before .pre .1, omega (arith, c .before .before .before .before .before .before .before .pre .1, c .before .before .loop .inv .1), c .before .loop-test .taken, c .before .before .before .before .before .before .before .pre .2, c .before .before .loop .inv .2, c .before .before .before .before .before .before .before .pre .3, c .before .before .loop .inv .3, c .before .before .loop .inv .4)
+
+enum-known-choice : tie.Need-enum-known-choice Inv-loop μ-loop
+enum-known-choice c = search needs
+
+returns : tie.Need-returns Inv-loop μ-loop
+returns c =
+    let r = subst (λ (r : Sought). Tries (Fits (c .before .before .before .before .before .before .before .before .before .before .before .before .args .groups) (recordsOf (now (c .before .before .before .before .before .before .before .before .before .before .before .before .args .records)) (c .before .before .before .before .before .before .before .before .before .before .before .before .args .count))) (c .before .before .before .before .before .before .before .before .before .before .before .before .args .last) (c .before .before .before .before .before .before .before .loop .g) r) (c .before .choice .given .1) (c .before .before .before .before .try-below .ensures .0) in
+    at-seed (c .before .before .before .before .before .before .before .before .before .before .before .before .args .groups) (recordsOf (now (c .before .before .before .before .before .before .before .before .before .before .before .before .args .records)) (c .before .before .before .before .before .before .before .before .before .before .before .before .args .count)) _ (r .0) (r .1)
+
+enum-known-c : tie.Need-enum-known-c Inv-loop μ-loop
+enum-known-c c = search needs
+
+add-g : tie.Need-add-g Inv-loop μ-loop
+add-g c = omega (arith, c .before .before .before .before .before .before .loop-test .taken, c .before .before .before .before .before .before .before .before .before .before .before .before .pre .1)
+
+loop-less : tie.Need-loop-less Inv-loop μ-loop
+loop-less c = omega (arith, c .before .before .before .before .before .before .loop-test .taken)
+
+loop-again : tie.Need-loop-again Inv-loop μ-loop
+loop-again c =
+    let r = subst (λ (r : Sought). Tries (Fits (c .before .before .before .before .before .before .before .before .before .before .before .before .args .groups) (recordsOf (now (c .before .before .before .before .before .before .before .before .before .before .before .before .args .records)) (c .before .before .before .before .before .before .before .before .before .before .before .before .args .count))) (c .before .before .before .before .before .before .before .before .before .before .before .before .args .last) (c .before .before .before .before .before .before .before .loop .g) r) (c .before .c .given .1) (c .before .before .before .before .try-below .ensures .0) in
+    let e : suc (c .before .before .before .before .before .before .before .loop .g) ≡ c .before .before .before .before .before .before .before .loop .g + 1 = omega arith in
+    (omega (arith, c .before .before .before .before .before .before .loop-test .taken), c .before .before .before .before .try-below .ensures .2 ∙ c .before .before .before .before .before .before .before .loop .inv .1, (λ j h l. c .before .before .before .before .try-below .ensures .1 j (omega (arith, e)) l), r .0, subst (Clear (Fits (c .before .before .before .before .before .before .before .before .before .before .before .before .args .groups) (recordsOf (now (c .before .before .before .before .before .before .before .before .before .before .before .before .args .records)) (c .before .before .before .before .before .before .before .before .before .before .before .before .args .count))) (c .before .before .before .before .before .before .before .before .before .before .before .before .args .last)) e (r .1))
+
+returns-2 : tie.Need-returns-2 Inv-loop μ-loop
+returns-2 c =
+    none-seed (c .before .before .before .before .before .before .args .groups) (recordsOf (now (c .before .before .before .before .before .before .args .records)) (c .before .before .before .before .before .before .args .count)) 0 (clear-end (c .before .before .before .before .before .before .args .groups) _ (c .before .before .before .before .before .before .args .last) (c .before .before .before .before .before .before .pre .2)
+    (subst (Clear (Fits (c .before .before .before .before .before .before .args .groups) (recordsOf (now (c .before .before .before .before .before .before .args .records)) (c .before .before .before .before .before .before .args .count))) (c .before .before .before .before .before .before .args .last)) (let e : c .before .loop .g ≡ c .before .before .before .before .before .before .args .groups = omega (arith, c .loop-test .left, c .before .loop .inv .0) in e) (c .before .loop .inv .4)))
+
+pub seek-below-spec : {M : Type 1} → statement M
+seek-below-spec =
+    tie.close
+    (tie.spec
+    Inv-loop
+    μ-loop
+    slice-aggregate-lay
+    lay-requires
+    loop-holds
+    slice-aggregate-try-below
+    try-below-requires
+    enum-known-choice
+    returns
+    enum-known-c
+    add-g
+    loop-less
+    loop-again
+    returns-2)

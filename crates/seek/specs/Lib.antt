@@ -1,0 +1,2 @@
+-- The seed search's path.
+pub mod Paths

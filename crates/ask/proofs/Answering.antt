@@ -11,8 +11,8 @@ use mathlib.Core.Path.{_≡_, refl, sym, ap, _∙_, subst}
 use mathlib.Core.List.{List, [], _∷_, _++_}
 use native.Mathlib.Omega.{arith}
 use native.Mathlib.Numerals.{add-one}
-use lib.ListN.{length, getD, take, drop, set, replicate, length-append, length-replicate, length-drop}
-use lib.Seq.{take-length, take-append-le, drop-append-seam, length-take-le}
+use lib.ListN.{length, getD, take, drop, set, replicate, length-replicate}
+use lib.Seq.{take-length, take-append-le, drop-append-seam}
 use Rattle.answer.specs.Space.{over}
 use Rattle.meaning.specs.Forced.{lowest, forcedIn, brokenIn}
 use Rattle.meaning.specs.Marks.{Flags, Partly}
@@ -20,7 +20,8 @@ use Rattle.meaning.proofs.Forced.{partly-none, forced-partly}
 use Rattle.book.specs.Walk.{bookOf, IsBook}
 use Rattle.marks.proofs.Walks.{heads}
 use Rattle.queue.specs.Forcing.{Forcing}
-use Rattle.admit.specs.Admits.{workWords, zeros}
+use Rattle.admit.specs.Admits.{zeros}
+use Rattle.admit.proofs.Admits.{cleared-again}
 
 take-zeros : (n v : ℕ) → v ≤ n → take {A = ℕ} v (replicate n 0) ≡ replicate v 0
 take-zeros n zero h = refl
@@ -36,12 +37,6 @@ module _ (n : ℕ) (w w₁ : List ℕ) (is : w₁ ≡ over (replicate n 0) w) wh
   rest-clear =
       ap (drop n) is ∙ ap (λ (k : ℕ). drop k (over (replicate n 0) w)) (sym (length-replicate {A = ℕ} n 0)) ∙ drop-append-seam (replicate n 0) _
       ∙ ap (λ (k : ℕ). drop k w) (length-replicate {A = ℕ} n 0)
-
-  clear-again : (w₂ w₃ : List ℕ) → n ≡ workWords → drop n w₂ ≡ drop n w₁ → w₃ ≡ over (replicate n 0) w₂ → w₃ ≡ over zeros w
-  unfolding zeros
-  clear-again w₂ w₃ e kept again =
-      again ∙ ap (λ (k : ℕ). replicate n 0 ++ drop k w₂) (length-replicate {A = ℕ} n 0) ∙ ap (λ (l : List ℕ). replicate n 0 ++ l) (kept ∙ rest-clear)
-      ∙ ap (λ (k : ℕ). replicate n 0 ++ drop k w) (sym (length-replicate {A = ℕ} n 0)) ∙ ap (λ (k : ℕ). over (replicate k 0) w) e
 
 pub begins : (s : List ℕ) (x v : ℕ) (f : List ℕ) → v ≡ bookOf s .variables → f ≡ replicate v 0 → Partly (bookOf s) x f
 begins s x v f ev e = subst (Partly (bookOf s) x) (sym (e ∙ ap (λ (k : ℕ). replicate k 0) ev)) (partly-none (bookOf s) x)
@@ -62,7 +57,7 @@ module _ (s : List ℕ) (x v : ℕ) (w w′ : List ℕ) (is : IsBook s) (ev : v 
   goal-is n e = e ∙ ap (λ (f : List ℕ). lowest x f 1 (bookOf s .clauses)) forced-front
 
   pub cleared-after : (w₀ w₃ : List ℕ) → w ≡ over (replicate 8192 0) w₀ → w₃ ≡ over (replicate 8192 0) w′ → w₃ ≡ over zeros w₀
-  cleared-after w₀ w₃ first again = clear-again 8192 w₀ w first w′ w₃ refl (F .rest) again
+  cleared-after w₀ w₃ first again = cleared-again 8192 w₀ w′ w₃ refl (F .rest ∙ rest-clear 8192 w₀ w first) again
 
   pub out-is : (out out′ : List ℕ) → out′ ≡ over (take v w′) out → out′ ≡ over (forcedIn (bookOf s) x) out
   out-is out out′ e = e ∙ ap (λ (f : List ℕ). over f out) forced-front

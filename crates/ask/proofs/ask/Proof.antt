@@ -1,6 +1,6 @@
 -- `ask::ask` meets its contract: the book's refusals, 10, 11, and the answer.
 -- Assumes nothing.
-use mathlib.Core.Path.{_≡_, refl, sym, ap, _∙_}
+use mathlib.Core.Path.{sym, ap, _∙_}
 use native.Mathlib.Omega.{arith}
 use denote.Ref.{now}
 use lib.ListN.{length}
@@ -52,7 +52,7 @@ returns-3 c =
     told-none _ _ _ _ _ _ _ (asks-goes _ _ _ _ _ _ (has (c .before .before .before .before .before .before .before .before .before .before .before)) (c .before .before .before .before .before .before .before .before .before .if1 .left) (c .before .before .before .before .before .before .before .before .if2 .left)) _ (a .0) (a .1) (a .2) (c .if3 .taken)
 
 returns-4 : tie.Need-returns-4
-returns-4 c = told-no _ _ _ _ _ _ (asks-no _ _ _ _ _ _ (admit-no _ _ _ _ (sym (ap admittedIs (c .before .number .given .1)) ∙ c .before .before .before .admit .ensures)))
+returns-4 c = told-no _ _ _ _ _ _ (asks-no _ _ _ _ _ _ (admit-no _ _ _ (sym (ap admittedIs (c .before .number .given .1)) ∙ c .before .before .before .admit .ensures)))
 
 same-length-3 : tie.Need-same-length-3
 same-length-3 c = search needs

@@ -1,0 +1,3 @@
+-- Laws of explaining.
+pub mod Passes
+pub mod Explains

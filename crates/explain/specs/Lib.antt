@@ -1,0 +1,2 @@
+-- What explaining a choice answers.
+pub mod Explains

@@ -1,0 +1,6 @@
+-- Laws of the functions on levels.
+pub mod Thresholds
+pub mod Totals
+pub mod Turns
+pub mod Walks
+pub mod Carrying

@@ -1,0 +1,73 @@
+-- `levels::carry` meets its contract. The loop's invariant: the first i levels are carried on, and the others as they were.
+-- Assumes nothing.
+use Prim.Native.Nat.{_-_, _≤_}
+use mathlib.Core.Path.{_≡_, refl, _∙_}
+use mathlib.Core.List.{_++_}
+use native.Mathlib.Omega.{arith}
+use denote.Ref.{now}
+use lib.ListN.{length, take, drop}
+use Rattle.levels.specs.Levels.{carried}
+use Rattle.levels.proofs.Carrying.{carry-next, carry-all}
+use borrow.Author.Needs.{needs}
+use Rattle.levels.proofs.carry.Statement.{statement}
+use Rattle.levels.proofs.carry.Tie as tie
+
+abbrev Inv-loop : tie.InvT-loop
+Inv-loop group levels₀ i₀ levels i = (levels ≡ take i (carried group levels₀) ++ drop i levels₀) × (length levels ≡ length levels₀) × (i ≤ length levels₀)
+
+abbrev μ-loop : tie.MeasureT-loop
+μ-loop group levels₀ i₀ levels i = length levels₀ - i
+
+loop-holds : tie.Need-loop-holds Inv-loop μ-loop
+loop-holds c = (refl, refl, omega arith)
+
+mul-carry-level : tie.Need-mul-carry-level Inv-loop μ-loop
+mul-carry-level c = search needs
+
+slice-read-carry-level : tie.Need-slice-read-carry-level Inv-loop μ-loop
+slice-read-carry-level c = search needs
+
+carry-level-requires : tie.Need-carry-level-requires Inv-loop μ-loop
+carry-level-requires c κs = search needs
+
+mul-levels : tie.Need-mul-levels Inv-loop μ-loop
+mul-levels c = search needs
+
+slice-write-levels : tie.Need-slice-write-levels Inv-loop μ-loop
+slice-write-levels c = search needs
+
+add-i : tie.Need-add-i Inv-loop μ-loop
+add-i c = search needs
+
+loop-less : tie.Need-loop-less Inv-loop μ-loop
+loop-less c = omega (arith, c .before .before .before .loop .inv .1, c .before .before .loop-test .taken)
+
+loop-again : tie.Need-loop-again Inv-loop μ-loop
+loop-again c =
+    let l = c .before .before .before .loop in
+    let h = c .before .before .loop-test .taken in
+    (carry-next _ _ _ _ _ (omega (arith, l .inv .1, h)) (l .inv .0) (c .carry-level .ensures), search needs, omega (arith, l .inv .1, h))
+
+same-length : tie.Need-same-length Inv-loop μ-loop
+same-length c = c .before .loop .inv .1
+
+returns : tie.Need-returns Inv-loop μ-loop
+returns c = c .before .loop .inv .0 ∙ carry-all _ _ _ (let e : c .before .loop .i ≡ length (now (c .before .before .before .args .levels)) = omega (arith, c .before .loop .inv .1, c .before .loop .inv .2, c .loop-test .left) in e)
+
+pub carry-spec : {M : Type 1} → statement M
+carry-spec =
+    tie.close
+    (tie.spec
+    Inv-loop
+    μ-loop
+    loop-holds
+    mul-carry-level
+    slice-read-carry-level
+    carry-level-requires
+    mul-levels
+    slice-write-levels
+    add-i
+    loop-less
+    loop-again
+    same-length
+    returns)

@@ -1,0 +1,2 @@
+-- Levels of variables.
+pub mod Levels

@@ -1,0 +1,2 @@
+-- What rounds and listings answer.
+pub mod Lists

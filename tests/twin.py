@@ -1,15 +1,22 @@
-"""Rule books: check, read, write, ask.  Document 01 as docs/DECISIONS.md reads it.
+"""Rule books: check, read, write, ask, explain, round, list.  Document 01 as docs/DECISIONS.md reads it.
 
 Answers are tuples:
   check(book)         -> ('book', variables, groups, clauses)  or ('refused', number, place)
   read(book, space)   -> ('count', numbers written)            or ('refused', number, place)
   write(plain, space) -> ('count', bytes written)              or ('refused', number, place)
   ask(book, choice, out, work) -> ('consistent',) or ('contradiction', clause)  or ('refused', number, place)
-book: bytes.  plain: list of i32.  choice: group g adds 2^(g-1).  space, out, work: lists, changed in place, never on a refusal.
+  explain(book, choice, work)  -> ('consistent',) or ('explanation', choice)    or ('refused', number, place)
+  round_(book, records, count, work), list_(book, records, count, work)
+                               -> ('complete', records) or ('stopped', records) or ('refused', number, place)
+book: bytes.  plain: list of i32.  choice: group g adds 2^(g-1).  records: list of words, two to a record, of which `count` are there.
+space, out, records, work: lists, changed in place, never on a refusal.
 """
+import functools
+import itertools
 
 BOOK_BYTES, VARIABLES, GROUPS, CLAUSES, BODY, WORDS = 65535, 1024, 32, 2048, 32, 8192
 END, HEADER, CLAUSE = 0, 1, 2
+EXPLANATION, REPAIR = 1, 2
 
 
 class Refused(Exception):
@@ -157,6 +164,80 @@ def forced_variables(clauses):
     return forced
 
 
+# ---------------------------------------------------------------- explaining, rounds: by trying all choices
+
+def choice_of(groups):
+    return sum(2 ** (group - 1) for group in groups)
+
+
+def groups_of(choice):
+    return [group for group in range(1, GROUPS + 1) if in_choice(group, choice)]
+
+
+@functools.lru_cache(64)
+def choices_from(groups):
+    """All choices that have only these groups, the largest number first."""
+    sets = itertools.chain.from_iterable(itertools.combinations(groups, size) for size in range(len(groups) + 1))
+    return sorted(map(choice_of, sets), reverse=True)
+
+
+class Rules:
+    """The clauses of a book, to try all choices on. In a book of more than FEW groups not all choices can be tried; what may be left out is said
+    where it is. check_twin.py holds both ways to the meanings."""
+    FEW = 10
+
+    def __init__(self, groups, clauses):
+        self.groups, self.clauses = groups, clauses
+        self.known = {}
+
+    def consistent(self, choice):
+        """No goal clause in force has its whole body forced."""
+        if choice not in self.known:
+            clauses = in_force(self.clauses, choice)
+            forced = forced_variables(clauses)
+            self.known[choice] = not any(head == 0 and all(v in forced for v in body) for _, body, head in clauses)
+        return self.known[choice]
+
+    def explanation(self, choice):
+        """The smallest number among the inconsistent choices within this one, which is inconsistent. In a book of many groups those are left out
+        that have only clauses whose head stands in no body: no broken goal needs them, so without them an inconsistent choice stays so, and its
+        number is smaller."""
+        tried = groups_of(choice)
+        if self.groups > self.FEW:
+            needed = {v for _, body, _ in self.clauses for v in body}
+            tried = [g for g in tried if any(group == g and (head == 0 or head in needed) for group, _, head in self.clauses)]
+        return min(some for some in choices_from(tuple(tried)) if not self.consistent(some))
+
+    def seed(self, records):
+        """The largest number among the choices that contain no listed explanation and share a group with every listed repair, or None. In a book
+        of many groups those that no record has are always taken: with one of them a choice passes as without it, and its number is larger."""
+        tried = range(1, self.groups + 1)
+        if self.groups > self.FEW:
+            tried = [group for group in tried if any(in_choice(group, members) for _, members in records)]
+        taken = choice_of(set(range(1, self.groups + 1)) - set(tried))
+        for choice in choices_from(tuple(tried)):
+            if all(passes(choice + taken, kind, members) for kind, members in records):
+                return choice + taken
+        return None
+
+    def record(self, seed):
+        """What the seed yields."""
+        if self.consistent(seed):
+            return REPAIR, 2 ** self.groups - 1 - seed
+        return EXPLANATION, self.explanation(seed)
+
+
+def passes(choice, kind, members):
+    """An explanation is not contained; with a repair there is a group in common."""
+    return choice & members != members if kind == EXPLANATION else choice & members != 0
+
+
+@functools.lru_cache(256)
+def rules_of(book):
+    _, groups, clauses = walk(book)
+    return Rules(groups, clauses)
+
+
 # ---------------------------------------------------------------- the calls
 
 def put(written, space):
@@ -192,11 +273,15 @@ def write(plain, space):
         return refused.answer()
 
 
+def refuse_lacking(groups, choice):
+    for group in range(groups + 1, GROUPS + 1):
+        refuse_if(in_choice(group, choice), 10, group)                      # 10 the lowest group the book lacks
+
+
 def ask(book, choice, out, work):
     try:
         variables, groups, clauses = walk(book)
-        for group in range(groups + 1, GROUPS + 1):
-            refuse_if(in_choice(group, choice), 10, group)                  # 10 the lowest group the book lacks
+        refuse_lacking(groups, choice)
         refuse_if(len(out) < variables or len(work) < WORDS, 11, 0)         # 11 after 10
     except Refused as refused:
         return refused.answer()
@@ -206,3 +291,52 @@ def ask(book, choice, out, work):
     out[:variables] = [1 if v in forced else 0 for v in range(1, variables + 1)]
     work[:WORDS] = [0] * WORDS
     return ('contradiction', min(broken)) if broken else ('consistent',)
+
+
+def explain(book, choice, work):
+    try:
+        _, groups, _ = walk(book)
+        refuse_lacking(groups, choice)
+        refuse_if(len(work) < WORDS, 11, 0)                                 # 11 after 10
+    except Refused as refused:
+        return refused.answer()
+    work[:WORDS] = [0] * WORDS
+    rules = rules_of(book)
+    return ('consistent',) if rules.consistent(choice) else ('explanation', rules.explanation(choice))
+
+
+def records_of(words, count):
+    return [(words[2 * k], words[2 * k + 1]) for k in range(count)]
+
+
+def refuse_records(groups, words, count):
+    refuse_if(count > len(words) // 2, 14, len(words))                      # 14 the count first
+    for k, (kind, members) in enumerate(records_of(words, count)):
+        refuse_if(kind not in (EXPLANATION, REPAIR), 14, 2 * k)             # 14 the lowest faulty word
+        refuse_if(members >= 2 ** groups, 14, 2 * k + 1)
+
+
+def rounds(book, words, count, work, most):
+    """At most so many rounds, while there is a seed and a whole record fits."""
+    try:
+        _, groups, _ = walk(book)
+        refuse_records(groups, words, count)
+        refuse_if(len(work) < WORDS, 11, 0)                                 # 11 after 14; never for the record room
+    except Refused as refused:
+        return refused.answer()
+    work[:WORDS] = [0] * WORDS
+    rules, room = rules_of(book), min(len(words) // 2, count + most)
+    seed = rules.seed(records_of(words, count))
+    while seed is not None and count < room:
+        words[2 * count:2 * count + 2] = rules.record(seed)
+        count += 1
+        seed = rules.seed(records_of(words, count))
+    return ('complete' if seed is None else 'stopped'), count               # a seed is looked for also where the room is full
+
+
+def round_(book, records, count, work):
+    return rounds(book, records, count, work, 1)
+
+
+def list_(book, records, count, work):
+    return rounds(book, records, count, work, len(records))

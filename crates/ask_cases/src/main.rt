@@ -26,40 +26,13 @@ fn tell(answer: Asked) {
     }
 }
 
-// What stands in working space before a call: never 0, so that a word that was not cleared shows.
-fn word_before(k: usize) -> u16 {
-    ((k % 65535 * 7919 + 65534) % 65535 + 1) as u16
-}
-
-fn fill_words(work: &mut [u16]) {
-    let mut k: usize = 0;
-    while k < work.len() {
-        work[k] = word_before(k);
-        k += 1;
-    }
-}
-
-fn wide_word(w: u16) -> u64 {
-    w as u64
-}
-
-fn sum_words(s: &[u16]) -> u64 {
-    let mut sum: u64 = 1;
-    let mut k: usize = 0;
-    while k < s.len() {
-        sum = case_io::added(sum, wide_word(s[k]));
-        k += 1;
-    }
-    sum
-}
-
 // The call on spaces of the case's own sizes: its answer, and the whole of both spaces after it.
 fn run_ask(book: &[u8], choice: u32, out: &mut [u8], work: &mut [u16]) {
     case_io::fill_bytes(out);
-    fill_words(work);
+    case_io::fill_words(work);
     tell(ask::ask(book, choice, out, work));
     case_io::put(case_io::sum_bytes(out));
-    case_io::put(sum_words(work));
+    case_io::put(case_io::sum_words(work));
     case_io::end_line();
 }
 

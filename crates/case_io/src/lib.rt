@@ -3,7 +3,7 @@
 ghost use mathlib.Core.Path.{_≡_};
 ghost use Prim.Native.Nat.{_<_};
 ghost use lib.ListN.{length};
-ghost use Rattle.case_io.specs.Fill.{startAt, filled, oneMore, sumFrom};
+ghost use Rattle.case_io.specs.Fill.{startAt, filled, wordAt, words, oneMore, sumFrom};
 use libc::STDIN_FILENO;
 use libc::STDOUT_FILENO;
 
@@ -59,6 +59,29 @@ pub fn next_four() -> u32
     io::read_full(STDIN_FILENO, &mut b);
     let n = ((wide(b[0]) * 256 + wide(b[1])) * 256 + wide(b[2])) * 256 + wide(b[3]);
     (n % 4294967296) as u32
+}
+
+// The next number of eight bytes.
+pub fn next_eight() -> usize {
+    let high = next_four() as usize;
+    let low = next_four() as usize;
+    high * 4294967296 + low
+}
+
+fn next_records(records: &mut [u32]) {
+    let mut k: usize = 0;
+    while k < records.len() {
+        records[k] = next_four();
+        k += 1;
+    }
+}
+
+// The next numbers of four bytes into the front of a space; none where it is too short for them.
+pub fn take_records(given: usize, records: &mut [u32]) {
+    if records.len() < given {
+        return;
+    }
+    next_records(&mut records[..given]);
 }
 
 // Copies a block of n bytes that ends at `at` onwards to `end`.
@@ -124,6 +147,38 @@ pub fn fill_bytes(out: &mut [u8])
     }
 }
 
+pub fn word_before(k: usize) -> u16
+    ensures { λ r. ⌜ r ≡ wordAt k ⌝ }
+{
+    ((k % 65535 * 7919 + 65534) % 65535 + 1) as u16
+}
+
+pub fn fill_words(work: &mut [u16])
+    ensures { λ _. ⌜ now (work .exit) ≡ words (length (now (work .entry))) ⌝ }
+{
+    let mut k: usize = 0;
+    while k < work.len() {
+        work[k] = word_before(k);
+        k += 1;
+    }
+}
+
+fn record_before(k: usize) -> u32
+    ensures { λ r. ⌜ r ≡ wordAt k ⌝ }
+{
+    word_before(k) as u32
+}
+
+pub fn fill_records(records: &mut [u32])
+    ensures { λ _. ⌜ now (records .exit) ≡ words (length (now (records .entry))) ⌝ }
+{
+    let mut k: usize = 0;
+    while k < records.len() {
+        records[k] = record_before(k);
+        k += 1;
+    }
+}
+
 // A checksum of lent space after a call, by one element more.
 pub fn added(sum: u64, e: u64) -> u64
     ensures { λ r. ⌜ r ≡ oneMore sum e ⌝ }
@@ -138,6 +193,42 @@ pub fn sum_bytes(s: &[u8]) -> u64
     let mut k: usize = 0;
     while k < s.len() {
         sum = added(sum, wide(s[k]));
+        k += 1;
+    }
+    sum
+}
+
+fn wide_word(w: u16) -> u64
+    ensures { λ r. ⌜ r ≡ w ⌝ }
+{
+    w as u64
+}
+
+pub fn sum_words(s: &[u16]) -> u64
+    ensures { λ r. ⌜ r ≡ sumFrom 1 (now (s .entry)) ⌝ }
+{
+    let mut sum: u64 = 1;
+    let mut k: usize = 0;
+    while k < s.len() {
+        sum = added(sum, wide_word(s[k]));
+        k += 1;
+    }
+    sum
+}
+
+fn wide_record(w: u32) -> u64
+    ensures { λ r. ⌜ r ≡ w ⌝ }
+{
+    w as u64
+}
+
+pub fn sum_records(s: &[u32]) -> u64
+    ensures { λ r. ⌜ r ≡ sumFrom 1 (now (s .entry)) ⌝ }
+{
+    let mut sum: u64 = 1;
+    let mut k: usize = 0;
+    while k < s.len() {
+        sum = added(sum, wide_record(s[k]));
         k += 1;
     }
     sum

@@ -1,13 +1,11 @@
 -- `case_io::fill_bytes` meets its contract.
 -- Assumes nothing.
-use mathlib.Core.Path.{_≡_, sym, ap, _∙_}
-use mathlib.Core.List.{List, [], _∷_, _++_}
-use Prim.Native.Nat.{ℕ, _+_, _-_, _<_, _≤_}
-use native.Mathlib.Numerals.{add-one}
+use mathlib.Core.Path.{_≡_}
+use Prim.Native.Nat.{_-_, _≤_}
 use native.Mathlib.Omega.{arith}
-use lib.ListN.{length, take, set, length-set}
-use lib.Seq.{take-all, take-suc-set}
+use lib.ListN.{length, take, length-set}
 use Rattle.case_io.specs.Fill.{startAt, filled}
+use Rattle.case_io.proofs.Fill.{fill-next, fill-end, filled-next}
 use borrow.Author.Needs.{needs}
 use Rattle.case_io.proofs.fill_bytes.Statement.{statement}
 use Rattle.case_io.proofs.fill_bytes.Tie as tie
@@ -17,14 +15,6 @@ Inv-loop out₀ k₀ out k = (k ≤ length out) × ((length out ≡ length out�
 
 abbrev μ-loop : tie.MeasureT-loop
 μ-loop out₀ k₀ out k = length out₀ - k
-
--- a turn's store fills one place more
-one-more : (out : List ℕ) (k b : ℕ) → k < length out → take k out ≡ filled k → b ≡ startAt k → take (k + 1) (set out k b) ≡ filled (k + 1)
-unfolding filled
-one-more out k b h e f = simp (add-one k) (take-suc-set out k b h ∙ ap (λ (l : List ℕ). l ++ b ∷ []) e ∙ ap (λ (x : ℕ). filled k ++ x ∷ []) f)
-
-whole : (out : List ℕ) (k n : ℕ) → k ≤ length out → length out ≤ k → length out ≡ n → take k out ≡ filled k → out ≡ filled n
-whole out k n h l m e = sym (take-all k out l) ∙ e ∙ ap filled (omega arith)
 
 loop-holds : tie.Need-loop-holds Inv-loop μ-loop
 unfolding filled
@@ -48,7 +38,7 @@ loop-again c =
       simp length-set (omega arith),
       (
         simp length-set (at-loop .loop .inv .1 .0),
-        one-more (at-loop .loop .out) (at-loop .loop .k) (c .before2 .result) (search needs) (at-loop .loop .inv .1 .1) (search needs),
+        fill-next startAt filled filled-next (at-loop .loop .out) (at-loop .loop .k) (at-loop .loop .inv .1 .1) (c .before2 .result) (search needs) (search needs),
       ),
     )
 
@@ -58,7 +48,7 @@ same-length c = search needs
 returns : tie.Need-returns Inv-loop μ-loop
 returns c =
     let at-loop = c .before in
-    whole (at-loop .loop .out) (at-loop .loop .k) (length (at-loop .before .before .args .out .now)) (at-loop .loop .inv .0) (search needs) (at-loop .loop .inv .1 .0) (at-loop .loop .inv .1 .1)
+    fill-end startAt filled filled-next (at-loop .loop .out) (at-loop .loop .k) (at-loop .loop .inv .1 .1) (length (at-loop .before .before .args .out .now)) (at-loop .loop .inv .0) (search needs) (at-loop .loop .inv .1 .0)
 
 pub fill-bytes-spec : {M : Type 1} → statement M
 fill-bytes-spec =

@@ -1,13 +1,11 @@
 -- `case_io::sum_bytes` meets its contract.
 -- Assumes nothing.
-use mathlib.Core.Path.{_≡_, subst}
-use mathlib.Core.List.{List}
-use Prim.Native.Nat.{ℕ, _+_, _-_, _<_, _≤_}
-use native.Mathlib.Numerals.{add-one}
+use mathlib.Core.Path.{_≡_}
+use Prim.Native.Nat.{_-_, _≤_}
 use native.Mathlib.Omega.{arith}
-use lib.ListN.{length, drop, getD, drop-of-length-le}
-use lib.Seq.{drop-cons}
-use Rattle.case_io.specs.Fill.{oneMore, sumFrom}
+use lib.ListN.{length, drop}
+use Rattle.case_io.specs.Fill.{sumFrom}
+use Rattle.case_io.proofs.Fill.{sum-next, sum-end}
 use borrow.Author.Needs.{needs}
 use Rattle.case_io.proofs.sum_bytes.Statement.{statement}
 use Rattle.case_io.proofs.sum_bytes.Tie as tie
@@ -17,15 +15,6 @@ Inv-loop s sum₀ k₀ sum k = (k ≤ length s) × (sumFrom sum (drop k s) ≡ s
 
 abbrev μ-loop : tie.MeasureT-loop
 μ-loop s sum₀ k₀ sum k = length s - k
-
--- a turn takes one element into the checksum
-one-more : (s : List ℕ) (k sum e r t : ℕ) → k < length s → sumFrom sum (drop k s) ≡ t → e ≡ getD s k 0 → r ≡ oneMore sum e → sumFrom r (drop (k + 1) s) ≡ t
-unfolding sumFrom
-one-more s k sum e r t h i f g = simp (add-one k, g, f) (subst (λ (l : List ℕ). sumFrom sum l ≡ t) (drop-cons s k 0 h) i)
-
-whole : (s : List ℕ) (k sum t : ℕ) → length s ≤ k → sumFrom sum (drop k s) ≡ t → sum ≡ t
-unfolding sumFrom
-whole s k sum t h e = subst (λ (l : List ℕ). sumFrom sum l ≡ t) (drop-of-length-le s h) e
 
 loop-holds : tie.Need-loop-holds Inv-loop μ-loop
 loop-holds c = search needs
@@ -50,14 +39,14 @@ loop-again c =
     let at-loop = c .before .before .before .before in
     let s = at-loop .before .before .args .s .now in (
       omega arith,
-      one-more s (at-loop .loop .k) (at-loop .loop .sum) (c .before .wide .result) (c .added .result) (sumFrom 1 s) (search needs) (at-loop .loop .inv .1) (search needs) (search needs),
+      sum-next s (at-loop .loop .k) (at-loop .loop .sum) (c .before .wide .result) (c .added .result) (sumFrom 1 s) (search needs) (at-loop .loop .inv .1) (search needs) (search needs),
     )
 
 returns : tie.Need-returns Inv-loop μ-loop
 returns c =
     let at-loop = c .before in
     let s = at-loop .before .before .args .s .now in
-    whole s (at-loop .loop .k) (at-loop .loop .sum) (sumFrom 1 s) (search needs) (at-loop .loop .inv .1)
+    sum-end s (at-loop .loop .k) (at-loop .loop .sum) (sumFrom 1 s) (search needs) (at-loop .loop .inv .1)
 
 pub sum-bytes-spec : {M : Type 1} → statement M
 sum-bytes-spec =

@@ -1,20 +1,23 @@
--- `ask_cases::fill_words` is safe and ends.
+-- `case_io::fill_words` meets its contract.
 -- Assumes nothing.
 use mathlib.Core.Path.{_≡_}
-use Prim.Native.Nat.{_≤_, _-_}
-use lib.ListN.{length, length-set}
+use Prim.Native.Nat.{_-_, _≤_}
 use native.Mathlib.Omega.{arith}
+use lib.ListN.{length, take, length-set}
+use Rattle.case_io.specs.Fill.{wordAt, words}
+use Rattle.case_io.proofs.Fill.{fill-next, fill-end, words-next}
 use borrow.Author.Needs.{needs}
-use Rattle.ask_cases.proofs.fill_words.Statement.{statement}
-use Rattle.ask_cases.proofs.fill_words.Tie as tie
+use Rattle.case_io.proofs.fill_words.Statement.{statement}
+use Rattle.case_io.proofs.fill_words.Tie as tie
 
 abbrev Inv-loop : tie.InvT-loop
-Inv-loop work₀ k₀ work k = (k ≤ length work) × (length work ≡ length work₀)
+Inv-loop work₀ k₀ work k = (k ≤ length work) × ((length work ≡ length work₀) × (take k work ≡ words k))
 
 abbrev μ-loop : tie.MeasureT-loop
 μ-loop work₀ k₀ work k = length work₀ - k
 
 loop-holds : tie.Need-loop-holds Inv-loop μ-loop
+unfolding words
 loop-holds c = search needs
 
 word-before-requires : tie.Need-word-before-requires Inv-loop μ-loop
@@ -33,13 +36,22 @@ loop-less : tie.Need-loop-less Inv-loop μ-loop
 loop-less c = search needs
 
 loop-again : tie.Need-loop-again Inv-loop μ-loop
-loop-again c = (simp length-set (omega arith), simp length-set (c .before .before .loop .inv .1))
+loop-again c =
+    let at-loop = c .before .before in (
+      simp length-set (omega arith),
+      (
+        simp length-set (at-loop .loop .inv .1 .0),
+        fill-next wordAt words words-next (at-loop .loop .work) (at-loop .loop .k) (at-loop .loop .inv .1 .1) (c .word-before .result) (search needs) (search needs),
+      ),
+    )
 
 same-length : tie.Need-same-length Inv-loop μ-loop
 same-length c = search needs
 
 returns : tie.Need-returns Inv-loop μ-loop
-returns c = search needs
+returns c =
+    let at-loop = c .before in
+    fill-end wordAt words words-next (at-loop .loop .work) (at-loop .loop .k) (at-loop .loop .inv .1 .1) (length (at-loop .before .before .args .work .now)) (at-loop .loop .inv .0) (search needs) (at-loop .loop .inv .1 .0)
 
 pub fill-words-spec : {M : Type 1} → statement M
 fill-words-spec =

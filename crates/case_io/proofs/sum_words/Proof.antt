@@ -1,13 +1,17 @@
--- `ask_cases::sum_words` is safe and ends.
+-- `case_io::sum_words` meets its contract.
 -- Assumes nothing.
-use Prim.Native.Nat.{_≤_, _-_}
-use lib.ListN.{length}
+use mathlib.Core.Path.{_≡_}
+use Prim.Native.Nat.{_-_, _≤_}
+use native.Mathlib.Omega.{arith}
+use lib.ListN.{length, drop}
+use Rattle.case_io.specs.Fill.{sumFrom}
+use Rattle.case_io.proofs.Fill.{sum-next, sum-end}
 use borrow.Author.Needs.{needs}
-use Rattle.ask_cases.proofs.sum_words.Statement.{statement}
-use Rattle.ask_cases.proofs.sum_words.Tie as tie
+use Rattle.case_io.proofs.sum_words.Statement.{statement}
+use Rattle.case_io.proofs.sum_words.Tie as tie
 
 abbrev Inv-loop : tie.InvT-loop
-Inv-loop s sum₀ k₀ sum k = k ≤ length s
+Inv-loop s sum₀ k₀ sum k = (k ≤ length s) × (sumFrom sum (drop k s) ≡ sumFrom 1 s)
 
 abbrev μ-loop : tie.MeasureT-loop
 μ-loop s sum₀ k₀ sum k = length s - k
@@ -34,10 +38,18 @@ loop-less : tie.Need-loop-less Inv-loop μ-loop
 loop-less c = search needs
 
 loop-again : tie.Need-loop-again Inv-loop μ-loop
-loop-again c = search needs
+loop-again c =
+    let at-loop = c .before .before .before .before in
+    let s = at-loop .before .before .args .s .now in (
+      omega arith,
+      sum-next s (at-loop .loop .k) (at-loop .loop .sum) (c .before .wide-word .result) (c .added .result) (sumFrom 1 s) (search needs) (at-loop .loop .inv .1) (search needs) (search needs),
+    )
 
 returns : tie.Need-returns Inv-loop μ-loop
-returns c = search needs
+returns c =
+    let at-loop = c .before in
+    let s = at-loop .before .before .args .s .now in
+    sum-end s (at-loop .loop .k) (at-loop .loop .sum) (sumFrom 1 s) (search needs) (at-loop .loop .inv .1)
 
 pub sum-words-spec : {M : Type 1} → statement M
 sum-words-spec =

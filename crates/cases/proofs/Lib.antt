@@ -2,3 +2,4 @@
 pub mod BookX
 pub mod Refusals
 pub mod Choices
+pub mod Starred

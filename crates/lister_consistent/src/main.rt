@@ -1,0 +1,4 @@
+// The listing program on a consistent book (stdin).
+fn main() {
+    listing_run::run();
+}

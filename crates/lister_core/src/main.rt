@@ -1,0 +1,4 @@
+// The listing program on an inconsistent core (stdin).
+fn main() {
+    listing_run::run();
+}

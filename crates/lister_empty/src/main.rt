@@ -1,0 +1,4 @@
+// The listing program on no bytes (stdin).
+fn main() {
+    listing_run::run();
+}

@@ -1,0 +1,2 @@
+-- Laws of what the listing program prints.
+pub mod Prints

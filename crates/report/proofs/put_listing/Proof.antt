@@ -1,0 +1,37 @@
+-- `report::put_listing` meets its contract.
+-- Assumes nothing.
+use native.Mathlib.Omega.{arith}
+use Rattle.answer.proofs.Spaces.{wrote-length}
+use Rattle.report.specs.Text.{groupsWord}
+use Rattle.report.proofs.Digits.{number-length}
+use Rattle.report.proofs.Lines.{line-length, listing-wrote}
+use borrow.Author.Needs.{needs}
+use Rattle.report.proofs.put_listing.Statement.{statement}
+use Rattle.report.proofs.put_listing.Tie as tie
+
+put-header-requires : tie.Need-put-header-requires
+put-header-requires c κs = search needs
+
+put-records-requires : tie.Need-put-records-requires
+put-records-requires c κs =
+    let a = c .before .before .before .before .before .before .before in
+    let u = c .before .before .before .put-header .ensures in
+    (a .pre .0, omega (arith, a .pre .1, u .place, wrote-length _ _ _ _ _ u, line-length groupsWord (a .args .groups), number-length 4 (a .args .groups) (omega (arith, a .fits .groups))))
+
+put-last-requires : tie.Need-put-last-requires
+put-last-requires c κs =
+    let a = c .before .before .before .before .before .before .before .before .before .before .before in
+    let u = c .before .before .before .before .before .before .before .put-header .ensures in
+    let v = c .before .before .before .put-records .ensures in
+    omega (arith, a .pre .1, u .place, wrote-length _ _ _ _ _ u, v .1, wrote-length _ _ _ _ _ (v .0), line-length groupsWord (a .args .groups), number-length 4 (a .args .groups) (omega (arith, a .fits .groups)))
+
+same-length : tie.Need-same-length
+same-length c = search needs
+
+returns : tie.Need-returns
+returns c = listing-wrote _ _ _ _ _ _ _ _ _ _ _ _ (c .before .before .before .before .before .before .before .before .before .before .put-header .ensures) (c .before .before .before .before .before .before .put-records .ensures .0) (c .before .before .put-last .ensures)
+
+pub put-listing-spec : {M : Type 1} → statement M
+put-listing-spec =
+    tie.close
+    (tie.spec put-header-requires put-records-requires put-last-requires same-length returns)

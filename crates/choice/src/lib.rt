@@ -8,7 +8,7 @@ ghost use Rattle.meaning.specs.Choice.{digit};
 ghost use Rattle.choice.specs.Groups.{width, Highest};
 
 // The most groups that a choice can have.
-pub const WIDTH: u32 = 32;
+const WIDTH: u32 = 32;
 
 // The same as a size.
 pub const PLACES: usize = 32;

@@ -16,7 +16,7 @@ use book::Front;
 use book::MOST_GROUPS;
 
 // The level of what no group brings.
-pub const NEVER: u16 = MOST_GROUPS + 1;
+const NEVER: u16 = MOST_GROUPS + 1;
 
 // The level of a group.
 fn group_level(group: u16, kept: u32, pool: u32) -> u16

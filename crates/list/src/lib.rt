@@ -21,7 +21,7 @@ pub enum Listed {
 }
 
 // Whether some bytes are a book and so many records of it can stand in the words: the book's numbers, or the refusal.
-pub fn open(book: &[u8], records: &[u32], count: usize) -> Admitted
+fn open(book: &[u8], records: &[u32], count: usize) -> Admitted
     ensures { λ r. ⌜ admittedIs r ≡ andThen (opens (now (book .entry)) (now (records .entry)) count) (λ b. answered (b .variables ∷ b .groups ∷ [])) ⌝ }
 {
     match book::check(book) {

@@ -101,7 +101,7 @@ fn put_kind(kind: u32, out: &mut [u8], at: usize) -> usize
 }
 
 // The line of a record.
-pub fn put_record(kind: u32, set: u32, out: &mut [u8], at: usize) -> usize
+fn put_record(kind: u32, set: u32, out: &mut [u8], at: usize) -> usize
     requires { ⌜ at + 104 ≤ length (now out) ⌝ }
     ensures { λ r. ⌜ Wrote (now (out .entry)) at (recordLine (recordFrom kind set)) (now (out .exit)) r ⌝ }
     ensures { λ r. ⌜ r ≤ at + 104 ⌝ }
@@ -122,7 +122,7 @@ fn put_line(word: &[u8], n: usize, out: &mut [u8], at: usize) -> usize
 }
 
 // The first line of a listing: the header's groups.
-pub fn put_header(groups: u16, out: &mut [u8], at: usize) -> usize
+fn put_header(groups: u16, out: &mut [u8], at: usize) -> usize
     requires { ⌜ at + 32 ≤ length (now out) ⌝ }
     ensures { λ r. ⌜ Wrote (now (out .entry)) at (line groupsWord (after groups)) (now (out .exit)) r ⌝ }
 {
@@ -130,7 +130,7 @@ pub fn put_header(groups: u16, out: &mut [u8], at: usize) -> usize
 }
 
 // The last line of a listing: complete or stopped, and the record count.
-pub fn put_last(done: bool, count: usize, out: &mut [u8], at: usize) -> usize
+fn put_last(done: bool, count: usize, out: &mut [u8], at: usize) -> usize
     requires { ⌜ at + 32 ≤ length (now out) ⌝ }
     ensures { λ r. ⌜ Wrote (now (out .entry)) at (line (lastWord done) (after count)) (now (out .exit)) r ⌝ }
 {
@@ -152,7 +152,7 @@ pub fn put_refusal(number: u8, place: usize, out: &mut [u8], at: usize) -> usize
 }
 
 // The lines of the first records.
-pub fn put_records(records: &[u32], count: usize, out: &mut [u8], at: usize) -> usize
+fn put_records(records: &[u32], count: usize, out: &mut [u8], at: usize) -> usize
     requires { ⌜ (count ≤ room (now records)) × (at + 104 * count ≤ length (now out)) ⌝ }
     ensures { λ r. ⌜ Wrote (now (out .entry)) at (recordLines (recordsOf (now (records .entry)) count)) (now (out .exit)) r ⌝ }
     ensures { λ r. ⌜ r ≤ at + 104 * count ⌝ }

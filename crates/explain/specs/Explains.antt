@@ -1,5 +1,5 @@
 -- What explaining a choice answers, and what it leaves.
---   reachFrom k g pool l      the lowest group of the pool above g whose number the level l reaches, of the next k groups; 0 if there is none
+--   reachFrom k g pool l      the lowest group of the pool above g whose number is at least the level l, of the next k groups; 0 if there is none
 --   transition pool l         the same of all groups
 --   explained b x             the smallest explanation within the choice x; none where the choice is consistent
 --   withinIs r                the numbers that `Within` is: none for consistent, or the explanation

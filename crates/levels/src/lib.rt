@@ -1,5 +1,5 @@
-// Levels of variables: by one walk to the end of what can be forced, the group at which each variable is forced where the groups of a pool come one after
-// the other, the lowest first, to the kept groups; and the group at which a goal is broken. A level is a word of 16 bits, one for each variable; choices
+// Levels of variables: the group at which each variable is forced where the groups of a pool come one after the other, the lowest first, to the kept
+// groups, found by sweeps until no level falls; and the group at which a goal is broken. A level is a word of 16 bits, one for each variable; choices
 // are numbers: group g adds 2 ^ (g - 1).
 ghost use mathlib.Core.Path.{_≡_};
 ghost use mathlib.Core.Bool.{true};

@@ -38,6 +38,7 @@ fn open(book: &[u8], records: &[u32], count: usize) -> Admitted
                 };
             }
             let place = records::fault(records, count, groups as u32);
+            // Fewer whole records stand before a faulty word: the place lies before the end of the records.
             if records::room(&records[..place]) < count {
                 return Admitted::Refused { number: 14, place };
             }

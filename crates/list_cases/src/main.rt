@@ -74,7 +74,7 @@ fn run_listing(call: u8, book: &[u8], records: &mut [u32], count: usize, work: &
     case_io::end_line();
 }
 
-// The case's part of each space.
+// What is left of a case of explain, and its run.
 fn next_explain(n: usize, bytes: &mut [u8], work: &mut [u16]) {
     let choice = case_io::next_four();
     case_io::take_bytes(n, bytes);
@@ -84,6 +84,7 @@ fn next_explain(n: usize, bytes: &mut [u8], work: &mut [u16]) {
     run_explain(&bytes[..n], choice, work);
 }
 
+// The case's part of each space.
 fn listing_parts(
     call: u8,
     n: usize,
@@ -102,7 +103,8 @@ fn listing_parts(
     run_listing(call, &bytes[..n], &mut records[..room], count, work);
 }
 
-// The records that the case gives stand before what stands there before a call.
+// What is left of a case of round or list, and its run. The records that the case gives stand first, and after them what stands in lent space before a
+// call.
 fn next_listing(call: u8, n: usize, bytes: &mut [u8], work: &mut [u16]) {
     let count = case_io::next_eight();
     let room = case_io::next_two();

@@ -16,7 +16,7 @@ fn print_front(out: &[u8], n: usize) {
     io::write_all(STDOUT_FILENO, &out[..n]);
 }
 
-// The spaces are as large as `run` lends them, so that none of the tests turns a book away.
+// The functions below lend spaces that are large enough, so none of the tests turns a book away.
 fn print_text(book: &[u8], records: &mut [u32], work: &mut [u16], out: &mut [u8]) {
     if work.len() < WORK_WORDS {
         return;

@@ -20,35 +20,27 @@ under c = below _ (c .before .x .given) (c .if1 .taken)
 over : (c : tie.Else1) → Above (number (c .before))
 over c = above _ (c .before .x .given) (c .if1 .left)
 
--- src/lib.rt:19:13
 mul-x : tie.Need-mul-x
 mul-x c = search needs
 
--- src/lib.rt:19:13
 shared-slice-copy-out-x : tie.Need-shared-slice-copy-out-x
 shared-slice-copy-out-x c = search needs
 
--- src/lib.rt:22:17
 sub-y : tie.Need-sub-y
 sub-y c = under c .fits
 
--- src/lib.rt:23:30
 cast-t9 : tie.Need-cast-t9
 cast-t9 c = under c .cast
 
--- src/lib.rt:23:30
 add-t10 : tie.Need-add-t10
 add-t10 c = under c .room
 
--- src/lib.rt:23:9
 returns : tie.Need-returns
 returns c = under c .is
 
--- src/lib.rt:25:18
 cast-t11 : tie.Need-cast-t11
 cast-t11 c = over c .cast
 
--- src/lib.rt:15:1
 returns-2 : tie.Need-returns-2
 returns-2 c = over c .is
 

@@ -9,27 +9,21 @@ use Rattle.signed.proofs.put_minus.Tie as tie
 use Rattle.signed.proofs.put_minus.Reads as reads
 use Rattle.signed.proofs.put_minus.Lts as lts
 
--- src/lib.rt:41:17
 cast-out : tie.Need-cast-out
 cast-out c = search needs
 
--- src/lib.rt:41:15
 sub-out : tie.Need-sub-out
 sub-out c = minus-fits _ (c .fits .n .fits)
 
--- src/lib.rt:41:5
 mul-t6 : tie.Need-mul-t6
 mul-t6 c = search needs
 
--- src/lib.rt:41:5
 slice-set-from-out : tie.Need-slice-set-from-out
 slice-set-from-out c = search needs
 
--- src/lib.rt:37:1
 same-length : tie.Need-same-length
 same-length c = search needs
 
--- src/lib.rt:37:1
 returns : tie.Need-returns
 returns c = ap (set (c .args .out .now) (c .args .at)) (minus-is _ (c .fits .n .fits))
 

@@ -9,23 +9,18 @@ use Rattle.signed.proofs.put_plus.Tie as tie
 use Rattle.signed.proofs.put_plus.Reads as reads
 use Rattle.signed.proofs.put_plus.Lts as lts
 
--- src/lib.rt:33:15
 cast-out : tie.Need-cast-out
 cast-out c = search needs
 
--- src/lib.rt:33:5
 mul-t5 : tie.Need-mul-t5
 mul-t5 c = search needs
 
--- src/lib.rt:33:5
 slice-set-from-out : tie.Need-slice-set-from-out
 slice-set-from-out c = search needs
 
--- src/lib.rt:29:1
 same-length : tie.Need-same-length
 same-length c = search needs
 
--- src/lib.rt:29:1
 returns : tie.Need-returns
 returns c = ap (set (c .args .out .now) (c .args .at)) (plus-is _ (c .fits .n .fits))
 

@@ -12,7 +12,8 @@
 --   wrote-length                the space is as long as it was
 --   wrote-sole                  the space and the place after what was written are determined
 --   Writing                     the invariant of a loop that writes: what is left of all that is to be written
---   writing-..                  its start, what it says of places, its next turn, its end
+--   writing-start, writing-next, writing-end      its start, its next turn, its end
+--   writing-count, writing-length, writing-room      what it says of places
 -- Assumes nothing.
 use Prim.Native.Nat.{ℕ, suc, _+_, _-_, _≤_, _<_}
 use mathlib.Core.Path.{_≡_, refl, sym, ap, _∙_}

@@ -4,7 +4,7 @@
 --   forced-front, forced-flags, forced-length      the marks after forcing, as the other functions ask for them
 --   goal-is, out-is     the lowest broken goal, and the bytes, by those marks
 --   cleared-after       the space, cleared before and after
---   copy-next, copy-all one mark more written, and all of them
+--   copy-next, copy-all      one mark more written, and all of them
 -- Assumes nothing.
 use Prim.Native.Nat.{ℕ, zero, suc, _+_, _≤_, _<_}
 use mathlib.Core.Path.{_≡_, refl, sym, ap, _∙_, subst}

@@ -1,7 +1,7 @@
 -- What asking about a choice answers, and what it leaves.
 --   askedIs r           the answer that `Asked` is: no number for consistent, the goal's number for a contradiction, or the refusal
 --   goals n             the lowest broken goal as such numbers: none where n is 0
---   asks s x room words the book to ask, where out has `room` bytes and the working space `words` words; or the refusal: the book's, 10, 11
+--   asks s x room words      the book to ask, where out has `room` bytes and the working space `words` words; or the refusal: the book's, 10, 11
 --   Asking a x r out work out′ work′      of the book that a is, or the refusal: r is the answer, and out′ and work′ are what out and work become
 -- Assumes nothing: these are definitions.
 use Prim.Native.Nat.{ℕ, zero, suc}

@@ -1,7 +1,9 @@
 -- What holds as the fields of a book are passed and its clauses counted.
 --   countedFrom v g n a      the numbers to be answered, where n clauses were passed and a is what is left
+--   answerOf v g book        what `check_fields` is to answer
 --   Passed                   the invariant of `check_fields`: `rest` stands at `at`, with room for `left` clauses
---   passed-..                its start, its three ways out, and its next turn
+--   passed-start, passed-next      its start and its next turn
+--   passed-bad, passed-after, passed-done      its ways out: a wrong field, bytes after the end, the end
 -- Assumes nothing.
 use Prim.Native.Nat.{ℕ, zero, suc, _+_, _-_, _≤_, _<_}
 use mathlib.Core.Path.{_≡_, refl, sym, ap, _∙_}

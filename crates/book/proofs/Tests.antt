@@ -1,9 +1,9 @@
 -- What no test's holding says of a header, of a clause and of a field, and the other way round.
 --   StartOk, HeaderOk, ClauseOk, FieldOk      what a right one satisfies
---   ..-ok                            nothing is wrong with it, so it satisfies that
+--   start-ok, header-ok, clause-ok, field-ok      nothing is wrong with it, so it satisfies that
 --   shape-least                      a clause of a right length has its group and its head
 --   body-within, body-rises          what the two tests of the body part say
---   ..-none                          it satisfies that, so nothing is wrong with it
+--   start-none, header-none, clause-none, field-none      it satisfies that, so nothing is wrong with it
 -- Assumes nothing.
 use Prim.Native.Nat.{ℕ, zero, suc, _-_, _≤_, _<_, _%_}
 use mathlib.Core.Path.{_≡_, refl, sym, ap, _∙_}

@@ -1,5 +1,6 @@
 -- The bytes of a rule book, and the limits.
---   most..             the limits
+--   mostBytes, mostVariables, mostGroups, mostClauses      the limits of a book
+--   mostBody           ... and of the size of a body
 --   GoodClause v g c   what is asked of a clause in a book of v variables and g groups
 --   GoodClauses        the same of each of some clauses
 --   WellFormed b       what is asked of a book, save the length of its bytes

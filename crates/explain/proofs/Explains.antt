@@ -4,6 +4,7 @@
 --   explained-one, explain-one      the answer determines `Explained`; the contract of `explain` determines its answer and the space
 --   says-consistent           the answer is consistent exactly if some assignment satisfies all clauses in force
 --   says-smallest             an explanation that is told is the smallest number among the inconsistent choices within the choice
+--   says-least                ... no smaller choice within the choice is inconsistent, by what assignments satisfy
 --   says-explanation          ... it is an explanation of the book, and lies within the choice
 -- Assumes nothing.
 use Prim.Native.Nat.{ℕ, _-_, _^_, _≤_, _<_}

@@ -2,7 +2,7 @@
 --   short-none, short-no     the bytes that it takes are there, both ways
 --   field-front              a field is its front, and then its value
 --   length-field             how many bytes it is
---   field-..                 what is found where a field was written, with `rest` after it
+--   field-tag, field-len, field-length, field-fits, field-after      what is found where a field was written, with `rest` after it
 -- Assumes nothing.
 use Prim.Native.Nat.{ℕ, _+_, _/_, _%_, _≤_, _<_}
 use mathlib.Core.Path.{_≡_, refl, ap, _∙_}

@@ -2,8 +2,9 @@
 --   bytes-at, byte-at            bytes as a slice has them, both ways
 --   bytes-drop, bytes-take       of a part
 --   words-none, spelt            what some bytes spell, by their length
---   within-.., rising-..         one turn of a test of a part's numbers
---   cons-.., one-..              a test of a number and of those after it
+--   within-low, within-high, within-next, within-none, rising-not, rising-next, rising-none      one turn of a test of a part's numbers
+--   within-cons, cons-within, rising-cons, cons-rising      a test of a number and of those after it, both ways
+--   within-one, one-within       of one number alone
 --   within-more                  within wider limits
 --   high-byte, low-byte, two-bytes      a number and its two bytes
 --   words-two                    one number spelt

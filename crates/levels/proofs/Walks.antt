@@ -1,7 +1,7 @@
 -- Two walks over an accepted book: one in which each clause has its turn, and one for the least level of the goals; and what they come to.
 --   here-turn, here-goal     the turn of the clause at hand, and its level as a goal
---   Sweeping, sweeping-..    the invariant of `sweep`, its next turn and its end
---   Seeking, seeking-..      the invariant of `least_goal`, its next turn and its end
+--   Sweeping, sweeping-next, sweeping-end      the invariant of `sweep`, its next turn and its end
+--   Seeking, seeking-next, seeking-end      the invariant of `least_goal`, its next turn and its end
 --   falling-start, falling-next      the invariant of `settle`: no level yet, and after a sweep
 --   settled                  a sweep that lowers no level leaves the settled levels
 --   goal-level               the least level of the goals by settled levels

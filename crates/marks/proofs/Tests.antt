@@ -5,7 +5,8 @@
 --   first-is, first-next         w has no mark, or it has one
 --   within-first                 w is within its limits, and so are the others
 --   all-marked                   where the first unmarked variable is 0, all are marked
---   clause-.., one-less          what a clause adds: a goal, an old mark, not in force, not its whole body, and else; then a mark less is missing
+--   clause-goal, clause-old, clause-off, clause-not, clause-new      what a clause adds: a goal, an old mark, not in force, not its whole body, and else
+--   one-less                     after a new mark one less is missing
 --   unbroken-head, unbroken-off, broken-if      whether a clause is a broken goal
 -- Assumes nothing.
 use Prim.Native.Nat.{ℕ, zero, suc, _+_, _-_, _/_, _%_, _^_, _≤_, _<_}

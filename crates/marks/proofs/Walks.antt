@@ -2,8 +2,8 @@
 --   here                     the clause at hand, as its parts spell it
 --   Ready, turn-ready        the clause at hand is as the functions on clauses ask
 --   here-mark, here-broken   what it adds, and whether it is broken
---   Sweeping, sweeping-..    the invariant of `sweep`, its bound, its next turn and its end
---   Seeking, seeking-..      the invariant of `lowest_broken`, its ways out and its next turn
+--   Sweeping, sweeping-next, sweeping-end      the invariant of `sweep`, its next turn and its end
+--   Seeking, seeking-none, seeking-found, seeking-next      the invariant of `lowest_broken`, its ways out and its next turn
 --   heads                    the heads of an accepted book are its variables
 --   partly-swept             a sweep adds marks of forced variables only
 --   settling-end             a sweep that adds no mark leaves the forced variables

@@ -4,12 +4,13 @@
 --   mark-same                    ... or by what its head would add
 --   put-none, put-some, put-old  a head more, by the head
 --   marked-at                    a variable's mark
---   every-.., first-..           a test of each number, and the first unmarked one, by the first number
+--   every-none, every-first      a test of each number, by the first
+--   first-none, first-here, first-later, first-some      the first unmarked one, by the first number, and what it says
 --   pass-none, pass-first        clauses one after the other
 --   in-force-one                 a clause of one group is in force where that group is chosen
---   ..-under                     a clause, a pass and passes keep to a closed set
---   unmarked-..                  how many marks are missing
---   length-..                    how many marks there are stays
+--   put-under, mark-under, pass-under, passes-under      a head, a clause, a pass and passes keep to a closed set
+--   unmarked-le, unmarked-set, unmarked-none      how many marks are missing
+--   length-put, length-mark, length-pass, length-passes      how many marks there are stays
 --   Quiet x f c, AllQuiet        clause c adds nothing to the marks f; each of some clauses
 --   Heads n cs                   each head is at most n
 --   mark-or                      a clause is quiet, or a mark less is missing after it

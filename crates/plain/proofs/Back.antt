@@ -1,7 +1,7 @@
 -- What is taken is what was given: where numbers are taken as a book, it is well formed and they are its plain form.
 --   number-is                      a number that was taken
 --   OneGroup, groups-is            the group that was taken
---   Place                          where the numbers after a clause stand
+--   Place, place-more              where the numbers after a clause stand; the same with one number more before
 --   Closed, literals-back          what a clause's literals were taken as
 --   Taken                          the same of clauses
 --   Given, taking-back             the same of a whole book

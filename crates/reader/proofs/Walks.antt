@@ -1,7 +1,9 @@
 -- Two walks over an accepted book: one that adds up the length of its plain form, and one that writes it.
---   turn-plain, turn-length      the plain form of the clause at hand, and its length
---   Adding, adding-..            the invariant of `plain_length`, its next turn and its end
---   Filling, filling-..          the invariant of `put_clauses`, its room, its next turn and its end
+--   here                         the plain form of the clause at hand, as its parts spell it
+--   turn-plain                   the plain form from that clause on
+--   turn-length, turn-most       the length of `here`, and the most that it can be
+--   Adding, adding-next, adding-end      the invariant of `plain_length`, its next turn and its end
+--   Filling, filling-room, filling-next, filling-end      the invariant of `put_clauses`, its room, its next turn and its end
 -- Assumes nothing.
 use Prim.Native.Nat.{ℕ, zero, suc, _+_, _-_, _*_, _/_, _≤_, _<_}
 use mathlib.Core.Path.{_≡_, refl, sym, ap, _∙_}

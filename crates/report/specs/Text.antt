@@ -7,7 +7,7 @@
 --   groupsOf x         the groups of a set, rising
 --   noneText           a blank and `none`
 --   setText x          `none` for the empty set; else its groups, a blank before each
---   groupsWord, ..     the words
+--   groupsWord, explainWord, repairWord, completeWord, stoppedWord, refusedWord      the words
 --   line word rest     a word, what follows it, and a line feed
 --   kindWord k         `explain` for kind 1, and else `repair`
 --   recordLine r       `explain` or `repair`, and the set

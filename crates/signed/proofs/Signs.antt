@@ -1,5 +1,6 @@
 -- A signed number of 32 bits, as the code holds it, and its sign.
 --   held z      z as it is read back from its bits
+--   flip z      -1 - z, as the code holds it
 --   Below, below      what the code computes of a number below 0
 --   Above, above      what it computes of any other
 --   plus-is, minus-fits, minus-is      the numbers made of one of 16 bits

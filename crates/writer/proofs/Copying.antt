@@ -1,9 +1,12 @@
 -- What holds as a plain form that was taken is written.
---   length-sizes, sizes-..      numbers without their signs
+--   length-sizes, sizes-none, sizes-more      numbers without their signs
 --   clause-wrote                a clause's field: its front, its groups, its head, its body
 --   header-wrote                the header
 --   Copying                     the invariant of `put_clauses`: t is the plain form of the clauses that are left
---   Copy, copy, copy-..         what it says at a clause, its next turn, its start and its end
+--   Copy, copy                  what it says at a clause
+--   copy-room, copy-next        there is room for the clause; its next turn
+--   copy-none                   no scan finds something wrong
+--   copy-last, copy-end         at the end: there is room for it, and all is written
 -- Assumes nothing.
 use Prim.Native.Nat.{ℕ, zero, suc, _+_, _-_, _*_, _%_, _≤_, _<_}
 use mathlib.Core.Path.{_≡_, refl, sym, ap, _∙_}

@@ -1,8 +1,9 @@
 -- The first of some numbers, and those after it.
 --   tail t                   the numbers after the first
 --   cut, tail-length         where there is a first
---   number-bad, number-ok     a number that is to be within limits, by what is wrong with it
---   between-..                whether it is, by its sign
+--   wrong low high x         what is wrong with a number that is to be from low to high: 7, or 0
+--   number-bad, number-ok    that number or the refusal, by what is wrong
+--   between-low, between-high, between-in, between-minus      what is wrong, by its sign and the limits
 -- Assumes nothing.
 use Prim.Native.Nat.{ℕ, zero, suc, _+_, _-_, _≤_, _<_}
 use mathlib.Core.Path.{_≡_, refl, sym, ap, _∙_}

@@ -1,9 +1,12 @@
 -- What holds as a plain form is taken clause by clause.
 --   takenFrom v g n a      what is to be answered, where the book has n bytes so far and a is what is left
+--   answerOf v g all       what `take_clauses` is to answer
 --   Passing                the invariant of `take_clauses`: t is what is left, from index i on, with room for `left` clauses
 --   scan-closed            what a scan that found nothing wrong says
---   Next, passing-..       its start, its ways out and its next turn
---   take-..                the whole plain form, by its first two numbers
+--   passing-start, passing-done      its start and its end
+--   passing-full, passing-bad, passing-wrong      its refusals: no room for a clause, its group, what a scan found
+--   Next, passing-next     what a closed clause says, and the next turn
+--   take-none, take-variables, take-one, take-groups, take-whole      the whole plain form, by its first two numbers
 -- Assumes nothing.
 use Prim.Native.Nat.{ℕ, zero, suc, _+_, _-_, _*_, _%_, _≤_, _<_}
 use mathlib.Core.Path.{_≡_, refl, sym, ap, _∙_}

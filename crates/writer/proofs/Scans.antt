@@ -1,6 +1,8 @@
 -- What holds as a clause's literals are scanned.
 --   Scanning            the invariant of `scan_clause`: t is what is left, from index i on
---   scanning-..         its start, its ways out and its next turn, by the first of t
+--   scanning-start      its start
+--   scanning-none, scanning-zero, scanning-bad-head, scanning-bad-body      its ways out, by the first of t: none, the 0, a wrong literal
+--   scanning-head, scanning-body      its next turn, after a right one
 --   head-most, body-most      a literal that is right names a variable
 -- Assumes nothing.
 use Prim.Native.Nat.{ℕ, zero, suc, _+_, _-_, _≤_, _<_}

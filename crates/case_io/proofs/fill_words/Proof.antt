@@ -1,17 +1,15 @@
--- `case_io::fill_words` meets its contract.
+-- `case_io::fill_words` meets its contract. The loop's invariant is `Filling`, of `Fill.antt`.
 -- Assumes nothing.
-use mathlib.Core.Path.{_≡_}
-use Prim.Native.Nat.{_-_, _≤_}
-use native.Mathlib.Omega.{arith}
-use lib.ListN.{length, take, length-set}
+use Prim.Native.Nat.{_-_}
+use lib.ListN.{length}
 use Rattle.case_io.specs.Fill.{wordAt, words}
-use Rattle.case_io.proofs.Fill.{fill-next, fill-end, words-next}
+use Rattle.case_io.proofs.Fill.{Filling, filling-next, filling-end, words-next}
 use borrow.Author.Needs.{needs}
 use Rattle.case_io.proofs.fill_words.Statement.{statement}
 use Rattle.case_io.proofs.fill_words.Tie as tie
 
 abbrev Inv-loop : tie.InvT-loop
-Inv-loop work₀ k₀ work k = (k ≤ length work) × ((length work ≡ length work₀) × (take k work ≡ words k))
+Inv-loop work₀ k₀ work k = Filling words work₀ work k
 
 abbrev μ-loop : tie.MeasureT-loop
 μ-loop work₀ k₀ work k = length work₀ - k
@@ -20,38 +18,11 @@ loop-holds : tie.Need-loop-holds Inv-loop μ-loop
 unfolding words
 loop-holds c = search needs
 
-word-before-requires : tie.Need-word-before-requires Inv-loop μ-loop
-word-before-requires c κs = search needs
-
-mul-work : tie.Need-mul-work Inv-loop μ-loop
-mul-work c = search needs
-
-slice-write-work : tie.Need-slice-write-work Inv-loop μ-loop
-slice-write-work c = search needs
-
-add-k : tie.Need-add-k Inv-loop μ-loop
-add-k c = search needs
-
-loop-less : tie.Need-loop-less Inv-loop μ-loop
-loop-less c = search needs
-
 loop-again : tie.Need-loop-again Inv-loop μ-loop
-loop-again c =
-    let at-loop = c .before .before in (
-      simp length-set (omega arith),
-      (
-        simp length-set (at-loop .loop .inv .1 .0),
-        fill-next wordAt words words-next (at-loop .loop .work) (at-loop .loop .k) (at-loop .loop .inv .1 .1) (c .word-before .result) (search needs) (search needs),
-      ),
-    )
-
-same-length : tie.Need-same-length Inv-loop μ-loop
-same-length c = search needs
+loop-again c = filling-next wordAt words-next (c .before .before .loop .inv) (search needs) (c .word-before .ensures)
 
 returns : tie.Need-returns Inv-loop μ-loop
-returns c =
-    let at-loop = c .before in
-    fill-end wordAt words words-next (at-loop .loop .work) (at-loop .loop .k) (at-loop .loop .inv .1 .1) (length (at-loop .before .before .args .work .now)) (at-loop .loop .inv .0) (search needs) (at-loop .loop .inv .1 .0)
+returns c = filling-end (c .before .loop .inv) (search needs)
 
 pub fill-words-spec : {M : Type 1} → statement M
 fill-words-spec =
@@ -60,11 +31,11 @@ fill-words-spec =
     Inv-loop
     μ-loop
     loop-holds
-    word-before-requires
-    mul-work
-    slice-write-work
-    add-k
-    loop-less
+    (λ c κs. search needs)
+    (λ c. search needs)
+    (λ c. search needs)
+    (λ c. search needs)
+    (λ c. search needs)
     loop-again
-    same-length
+    (λ c. search needs)
     returns)

@@ -1,55 +1,23 @@
--- `case_io::sum_words` meets its contract.
+-- `case_io::sum_words` meets its contract. The loop's invariant is `Summing`, of `Fill.antt`.
 -- Assumes nothing.
-use mathlib.Core.Path.{_≡_}
-use Prim.Native.Nat.{_-_, _≤_}
-use native.Mathlib.Omega.{arith}
-use lib.ListN.{length, drop}
-use Rattle.case_io.specs.Fill.{sumFrom}
-use Rattle.case_io.proofs.Fill.{sum-next, sum-end}
+use Prim.Native.Nat.{_-_}
+use lib.ListN.{length}
+use Rattle.case_io.proofs.Fill.{Summing, summing-next, summing-end}
 use borrow.Author.Needs.{needs}
 use Rattle.case_io.proofs.sum_words.Statement.{statement}
 use Rattle.case_io.proofs.sum_words.Tie as tie
 
 abbrev Inv-loop : tie.InvT-loop
-Inv-loop s sum₀ k₀ sum k = (k ≤ length s) × (sumFrom sum (drop k s) ≡ sumFrom 1 s)
+Inv-loop s sum₀ k₀ sum k = Summing s sum k
 
 abbrev μ-loop : tie.MeasureT-loop
 μ-loop s sum₀ k₀ sum k = length s - k
 
-loop-holds : tie.Need-loop-holds Inv-loop μ-loop
-loop-holds c = search needs
-
-mul-wide-word : tie.Need-mul-wide-word Inv-loop μ-loop
-mul-wide-word c = search needs
-
-shared-slice-read-wide-word : tie.Need-shared-slice-read-wide-word Inv-loop μ-loop
-shared-slice-read-wide-word c = search needs
-
-wide-word-requires : tie.Need-wide-word-requires Inv-loop μ-loop
-wide-word-requires c κs = search needs
-
-added-requires : tie.Need-added-requires Inv-loop μ-loop
-added-requires c κs = search needs
-
-add-k : tie.Need-add-k Inv-loop μ-loop
-add-k c = search needs
-
-loop-less : tie.Need-loop-less Inv-loop μ-loop
-loop-less c = search needs
-
 loop-again : tie.Need-loop-again Inv-loop μ-loop
-loop-again c =
-    let at-loop = c .before .before .before .before in
-    let s = at-loop .before .before .args .s .now in (
-      omega arith,
-      sum-next s (at-loop .loop .k) (at-loop .loop .sum) (c .before .wide-word .result) (c .added .result) (sumFrom 1 s) (search needs) (at-loop .loop .inv .1) (search needs) (search needs),
-    )
+loop-again c = summing-next (c .before .before .before .before .loop .inv) (search needs) (c .before .wide-word .ensures) (c .added .ensures)
 
 returns : tie.Need-returns Inv-loop μ-loop
-returns c =
-    let at-loop = c .before in
-    let s = at-loop .before .before .args .s .now in
-    sum-end s (at-loop .loop .k) (at-loop .loop .sum) (sumFrom 1 s) (search needs) (at-loop .loop .inv .1)
+returns c = summing-end (c .before .loop .inv) (search needs)
 
 pub sum-words-spec : {M : Type 1} → statement M
 sum-words-spec =
@@ -57,12 +25,12 @@ sum-words-spec =
     (tie.spec
     Inv-loop
     μ-loop
-    loop-holds
-    mul-wide-word
-    shared-slice-read-wide-word
-    wide-word-requires
-    added-requires
-    add-k
-    loop-less
+    (λ c. search needs)
+    (λ c. search needs)
+    (λ c. search needs)
+    (λ c κs. search needs)
+    (λ c κs. search needs)
+    (λ c. search needs)
+    (λ c. search needs)
     loop-again
     returns)

@@ -71,26 +71,19 @@ fn scan_clause(s: &[i32], variables: u16, at: usize) -> Scan
     let mut head: u16 = 0;
     let mut last: u16 = 0;
     let mut count: u16 = 0;
-    let mut i = at;
+    let mut next = at;
     loop {
+        let place = next;
         if t.len() == 0 {
-            return Scan::Wrong {
-                number: 12,
-                place: i,
-            };
+            return Scan::Wrong { number: 12, place };
         }
         let x = signed::number_at(t, 0);
-        let place = i;
         t = &t[1..];
-        i += 1;
+        next += 1;
         match x {
             Signed::Plus(n) => {
                 if n == 0 {
-                    return Scan::Closed {
-                        head,
-                        count,
-                        next: i,
-                    };
+                    return Scan::Closed { head, count, next };
                 }
                 let number = wrong_head(n, variables, head);
                 if number != 0 {
@@ -148,7 +141,7 @@ fn take_clauses(plain: &[i32], variables: u16, groups: u16) -> Taken
     ensures { λ r. ⌜ r ≡ takenOf (andThen (clausesAt variables groups 2048 2 (drop 2 (now (plain .entry)))) (withClauses variables groups)) ⌝ }
 {
     let mut t = &plain[2..];
-    let mut i: usize = 2;
+    let mut place: usize = 2;
     let mut left: u16 = MOST_CLAUSES;
     let mut size: usize = 10;
     loop {
@@ -160,28 +153,21 @@ fn take_clauses(plain: &[i32], variables: u16, groups: u16) -> Taken
             };
         }
         if left == 0 {
-            return Taken::Refused {
-                number: 6,
-                place: i,
-            };
+            return Taken::Refused { number: 6, place };
         }
         let number = wrong_number(t, 0, 0, groups);
         if number != 0 {
-            return Taken::Refused { number, place: i };
+            return Taken::Refused { number, place };
         }
-        match scan_clause(&t[1..], variables, i + 1) {
+        match scan_clause(&t[1..], variables, place + 1) {
             Scan::Wrong { number, place } => {
                 return Taken::Refused { number, place };
             }
-            Scan::Closed {
-                head: _,
-                count,
-                next,
-            } => {
+            Scan::Closed { count, next, .. } => {
                 size += 7 + 2 * (count as usize);
                 left -= 1;
-                t = &t[next - i..];
-                i = next;
+                t = &t[next - place..];
+                place = next;
             }
         }
     }

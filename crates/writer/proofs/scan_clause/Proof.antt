@@ -11,10 +11,10 @@ use Rattle.writer.proofs.scan_clause.Statement.{statement}
 use Rattle.writer.proofs.scan_clause.Tie as tie
 
 abbrev Inv-loop : tie.InvT-loop
-Inv-loop s variables at t₀ head₀ last₀ count₀ i₀ t head last count i = Scanning variables at s t head last count i
+Inv-loop s variables at t₀ head₀ last₀ count₀ next₀ t head last count next = Scanning variables at s t head last count next
 
 abbrev μ-loop : tie.MeasureT-loop
-μ-loop s variables at t₀ head₀ last₀ count₀ i₀ t head last count i = length t
+μ-loop s variables at t₀ head₀ last₀ count₀ next₀ t head last count next = length t
 
 loop-holds : tie.Need-loop-holds Inv-loop μ-loop
 loop-holds c = scanning-start _ _ _
@@ -34,8 +34,8 @@ part-t-start c = omega (arith, c .before .if1 .left)
 part-t-end : tie.Need-part-t-end Inv-loop μ-loop
 part-t-end c = search needs
 
-add-i : tie.Need-add-i Inv-loop μ-loop
-add-i c = omega (arith, c .before .before .before .loop .inv .place, c .before .before .before .before .pre)
+add-next : tie.Need-add-next Inv-loop μ-loop
+add-next c = omega (arith, c .before .before .before .loop .inv .place, c .before .before .before .before .pre)
 
 enum-known-x : tie.Need-enum-known-x Inv-loop μ-loop
 enum-known-x c = search needs
@@ -95,7 +95,7 @@ scan-clause-spec =
     sub-t
     part-t-start
     part-t-end
-    add-i
+    add-next
     enum-known-x
     returns-2
     wrong-head-requires

@@ -13,17 +13,17 @@ use Rattle.writer.proofs.take_clauses.Statement.{statement}
 use Rattle.writer.proofs.take_clauses.Tie as tie
 
 abbrev Inv-loop : tie.InvT-loop
-Inv-loop plain variables groups t₀ i₀ left₀ size₀ t i left size = Passing variables groups plain t i left size
+Inv-loop plain variables groups t₀ place₀ left₀ size₀ t place left size = Passing variables groups plain t place left size
 
 abbrev μ-loop : tie.MeasureT-loop
-μ-loop plain variables groups t₀ i₀ left₀ size₀ t i left size = length t
+μ-loop plain variables groups t₀ place₀ left₀ size₀ t place left size = length t
 
 -- where a clause was closed
 next : (c : tie.After-count Inv-loop μ-loop)
     → let l = c .before .before .before .before .before .before .before .before in
     let a = c .before .before .before .before .before .before .before .before .before .before .args in
     let d = c .count .given .0 in
-    Next (a .variables) (a .groups) (a .plain .now) (l .loop .t .now) (l .loop .i) (c .before .before .before .before .before .before .before .if1 .left) (l .loop .size) _ (c .before .before .before .before .before .wrong-number .ensures) (l .loop .left) (d .1 .0) (d .1 .1 .0)
+    Next (a .variables) (a .groups) (a .plain .now) (l .loop .t .now) (l .loop .place) (c .before .before .before .before .before .before .before .if1 .left) (l .loop .size) _ (c .before .before .before .before .before .wrong-number .ensures) (l .loop .left) (d .1 .0) (d .1 .1 .0)
 next c = passing-next _ _ _ (c .before .before .before .before .before .before .before .before .loop .t .now) _ (c .before .before .before .before .before .before .before .if1 .left) _ _ (c .before .before .before .before .before .wrong-number .ensures) _ (c .before .before .before .before .before .before .if2 .left) (c .before .before .before .before .before .before .before .before .loop .inv) (c .before .before .before .before .if3 .left) _ _ _ (sym (c .count .given .1) ∙ c .before .before .scan-clause .ensures)
 
 sub-t : tie.Need-sub-t Inv-loop μ-loop

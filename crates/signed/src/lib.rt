@@ -54,7 +54,7 @@ pub fn put_signed(below: bool, n: u16, out: &mut [i32], at: usize)
 }
 
 // The number at `at` without its sign, as far as 16 bits hold it.
-pub fn size_at(s: &[i32], at: usize) -> u16
+pub fn amount_at(s: &[i32], at: usize) -> u16
     requires { ⌜ at < length (now s) ⌝ }
     ensures { λ r. ⌜ r ≡ natAbs (getD (now (s .entry)) at (pos 0)) % 65536 ⌝ }
 {

@@ -1,5 +1,5 @@
 -- What holds as a plain form that was taken is written.
---   length-sizes, sizes-none, sizes-more      numbers without their signs
+--   length-amounts, amounts-none, amounts-more      numbers without their signs
 --   clause-wrote                a clause's field: its front, its groups, its head, its body
 --   header-wrote                the header
 --   Copying                     the invariant of `put_clauses`: t is the plain form of the clauses that are left
@@ -31,32 +31,32 @@ use Rattle.plain.specs.Plain.{minus, each, literals, headLiteral, plainClause, 
 use Rattle.plain.specs.Taking.{Ended, literalsAt, taking}
 use Rattle.plain.proofs.Given.{length-each, clause-numbers, plain-one, body-taken}
 use Rattle.plain.proofs.Back.{Place, place-more, literals-back, taking-back}
-use Rattle.writer.specs.Steps.{scanOf, bookFrom, IsPlain, sizes}
+use Rattle.writer.specs.Steps.{scanOf, bookFrom, IsPlain, amounts}
 use Rattle.writer.specs.declared.Scan.the-variants as Scan·v
 use Rattle.writer.proofs.Firsts.{tail, cut}
 use Rattle.writer.proofs.Passing.{scan-closed}
 
-pub length-sizes : (xs : List ℤ) → length (sizes xs) ≡ length xs
-unfolding sizes
-length-sizes [] = refl
-length-sizes (x ∷ xs) = ap suc (length-sizes xs)
+pub length-amounts : (xs : List ℤ) → length (amounts xs) ≡ length xs
+unfolding amounts
+length-amounts [] = refl
+length-amounts (x ∷ xs) = ap suc (length-amounts xs)
 
-pub sizes-none : (t : List ℤ) → length t ≤ 0 → wordBytes (sizes t) ≡ []
-unfolding sizes wordBytes
-sizes-none [] h = refl
-sizes-none (x ∷ t) h = absurd (omega arith)
+pub amounts-none : (t : List ℤ) → length t ≤ 0 → wordBytes (amounts t) ≡ []
+unfolding amounts wordBytes
+amounts-none [] h = refl
+amounts-none (x ∷ t) h = absurd (omega arith)
 
-pub sizes-more : (t : List ℤ) (w : ℕ) → (length t ≡ 0 → ⊥) → w ≡ natAbs (getD t 0 (pos 0)) % 65536 → wordBytes (sizes t) ≡ wordBytes (w ∷ []) ++ wordBytes (sizes (tail t))
-unfolding sizes wordBytes
-sizes-more t w some is = ap (λ (l : List ℤ). wordBytes (sizes l)) (cut t some) ∙ simp (← is)
+pub amounts-more : (t : List ℤ) (w : ℕ) → (length t ≡ 0 → ⊥) → w ≡ natAbs (getD t 0 (pos 0)) % 65536 → wordBytes (amounts t) ≡ wordBytes (w ∷ []) ++ wordBytes (amounts (tail t))
+unfolding amounts wordBytes
+amounts-more t w some is = ap (λ (l : List ℤ). wordBytes (amounts l)) (cut t some) ∙ simp (← is)
 
 -- the variables of a body are small
-sizes-literals : (v : ℕ) (ws : List ℕ) → v ≤ 1024 → within 1 v ws ≡ true → sizes (literals ws) ≡ ws
-unfolding sizes each
-sizes-literals v [] h e = refl
-sizes-literals v (w ∷ ws) h e =
+amounts-literals : (v : ℕ) (ws : List ℕ) → v ≤ 1024 → within 1 v ws ≡ true → amounts (literals ws) ≡ ws
+unfolding amounts each
+amounts-literals v [] h e = refl
+amounts-literals v (w ∷ ws) h e =
     let p = within-cons 1 v w ws e in
-    simp (abs w, sizes-literals v ws h (p .2)) (ap (λ (k : ℕ). k ∷ ws) (small w (omega (arith, p .1))))
+    simp (abs w, amounts-literals v ws h (p .2)) (ap (λ (k : ℕ). k ∷ ws) (small w (omega (arith, p .1))))
   where
     abs : (k : ℕ) → natAbs (negℤ (pos k)) ≡ k
     abs zero = refl
@@ -117,7 +117,7 @@ pub record Copy (v g : ℕ) (t : List ℤ) (i : ℕ) (left : List Clause) (h c j
   pub rest : drop (j - i) t ≡ plainClauses later
   pub few : c ≤ 32
   pub long : 1 + c ≤ length t
-  pub here : clauseFrom (sizes (take 1 t)) h (sizes (take (1 + c - 1) (drop 1 t))) ≡ now
+  pub here : clauseFrom (amounts (take 1 t)) h (amounts (take (1 + c - 1) (drop 1 t))) ≡ now
 
 -- what a scan finds in the plain form of a clause
 scan-one : (v g i : ℕ) (c : Clause) (n : ℕ) (xs : List ℤ) → GoodClause v g c → c .groups ≡ n ∷ []
@@ -136,7 +136,7 @@ module _ (v g : ℕ) (vs : v ≤ 1024) (gs : g ≤ 65535) (i : ℕ) (d : Clause)
   -- the scan found h, c and j
   module _ (h c j : ℕ) (e : Ended) (a : literalsAt v 0 0 0 (i + 1) u ≡ answered e) (eh : h ≡ e .head) (ec : c ≡ length (e .body)) (ej : j ≡ e .next) where
     copy-one : Copy v g (pos n ∷ u) i (d ∷ ds) h c j
-    unfolding sizes
+    unfolding amounts
     copy-one =
         let s = scan-one v g i d n (plainClauses ds) k one in
         let same : answered e ≡ answered (s .0) = sym a ∙ s .1 in
@@ -160,7 +160,7 @@ module _ (v g : ℕ) (vs : v ≤ 1024) (gs : g ≤ 65535) (i : ℕ) (d : Clause)
           rest = ap (λ (m : ℕ). drop (m - i) (pos n ∷ u)) ej ∙ p .rest ∙ rest;
           few = omega (arith, k .few);
           long = omega (arith, ap length body-part, length-append (literals (d .body)) (headLiteral (d .head) ++ (pos 0 ∷ plainClauses ds)), length-each minus (d .body));
-          here = simp (eh ∙ head, cuts, body-part, sizes-literals v (d .body) vs (k .variables), low) (ap (λ (l : List ℕ). clauseFrom l (d .head) (d .body)) (sym one));
+          here = simp (eh ∙ head, cuts, body-part, amounts-literals v (d .body) vs (k .variables), low) (ap (λ (l : List ℕ). clauseFrom l (d .head) (d .body)) (sym one));
         }
 
 -- where a clause is left, and the scan of its literals found h, c and j
@@ -207,7 +207,7 @@ module _ (v g : ℕ) (all : List Clause) (size : ℕ) (out₀ out : List ℕ) (t
     copy = copy-of v g (p .variables) (p .groups) t i (p .left) (p .same) (p .good) some h c j s
 
     abbrev bytes : List ℕ
-    bytes = clauseBytes (clauseFrom (sizes (take 1 t)) h (sizes (take (1 + c - 1) (drop 1 t))))
+    bytes = clauseBytes (clauseFrom (amounts (take 1 t)) h (amounts (take (1 + c - 1) (drop 1 t))))
 
     split : clausesBytes (p .left) ≡ bytes ++ clausesBytes (copy .later)
     unfolding clausesBytes
@@ -219,9 +219,9 @@ module _ (v g : ℕ) (all : List Clause) (size : ℕ) (out₀ out : List ℕ) (t
           arith,
           writing-room (clausesBytes all) out₀ 7 out at (clausesBytes (p .left)) (p .writing) r,
           ap length split ∙ length-append bytes (clausesBytes (copy .later)),
-          clause-length (clauseFrom (sizes (take 1 t)) h (sizes (take (1 + c - 1) (drop 1 t)))),
-          length-sizes (take 1 t),
-          length-sizes (take (1 + c - 1) (drop 1 t)),
+          clause-length (clauseFrom (amounts (take 1 t)) h (amounts (take (1 + c - 1) (drop 1 t)))),
+          length-amounts (take 1 t),
+          length-amounts (take (1 + c - 1) (drop 1 t)),
         )
 
     pub copy-next : (out′ : List ℕ) (at′ : ℕ) → Wrote out at bytes out′ at′ → Copying v g all size out₀ out′ (take (length t - (j - i)) (drop (j - i) t)) j at′

@@ -3,7 +3,7 @@
 --   takenOf a         the header's numbers and the length of the book that is to be written
 --   bookFrom xs       the book that a plain form is taken as
 --   IsPlain xs        the plain form is taken
---   sizes xs          numbers without their signs, as far as two bytes hold them
+--   amounts xs        numbers without their signs, as far as two bytes hold them
 -- Assumes nothing: these are definitions.
 use Prim.Native.Nat.{ℕ, _+_, _%_}
 use mathlib.Core.Path.{_≡_}
@@ -34,6 +34,6 @@ bookFrom xs = taken (taking xs)
 unfoldable pub IsPlain : List ℤ → Type 0
 IsPlain xs = taking xs ≡ answered (bookFrom xs)
 
-unfoldable pub sizes : List ℤ → List ℕ
-sizes [] = []
-sizes (x ∷ xs) = natAbs x % 65536 ∷ sizes xs
+unfoldable pub amounts : List ℤ → List ℕ
+amounts [] = []
+amounts (x ∷ xs) = natAbs x % 65536 ∷ amounts xs

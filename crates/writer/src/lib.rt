@@ -15,7 +15,7 @@ ghost use Rattle.book.specs.Bytes.{clauseBytes, clausesBytes};
 ghost use Rattle.book.specs.Reading.{withClauses};
 ghost use Rattle.plain.specs.Taking.{between, headTests, bodyTests, literalsAt, clausesAt, taking};
 ghost use Rattle.writer.specs.Writes.{writes};
-ghost use Rattle.writer.specs.Steps.{scanOf, takenOf, bookFrom, IsPlain, sizes};
+ghost use Rattle.writer.specs.Steps.{scanOf, takenOf, bookFrom, IsPlain, amounts};
 use answer::Written;
 use book::MOST_BODY;
 use book::MOST_BYTES;
@@ -203,20 +203,20 @@ fn take(plain: &[i32]) -> Taken
             place: 1,
         };
     }
-    let variables = signed::size_at(plain, 0);
-    let groups = signed::size_at(plain, 1);
+    let variables = signed::amount_at(plain, 0);
+    let groups = signed::amount_at(plain, 1);
     take_clauses(plain, variables, groups)
 }
 
 // Writes numbers without their signs, and gives the place after them. The same below.
-fn put_sizes(part: &[i32], out: &mut [u8], at: usize) -> usize
+fn put_amounts(part: &[i32], out: &mut [u8], at: usize) -> usize
     requires { ⌜ at + 2 * length (now part) ≤ length (now out) ⌝ }
-    ensures { λ r. ⌜ Wrote (now (out .entry)) at (wordBytes (sizes (now (part .entry)))) (now (out .exit)) r ⌝ }
+    ensures { λ r. ⌜ Wrote (now (out .entry)) at (wordBytes (amounts (now (part .entry)))) (now (out .exit)) r ⌝ }
 {
     let mut t = part;
     let mut i = at;
     while t.len() > 0 {
-        let w = signed::size_at(t, 0);
+        let w = signed::amount_at(t, 0);
         i = field::put_word(w, out, i);
         t = &t[1..];
     }
@@ -227,13 +227,13 @@ fn put_sizes(part: &[i32], out: &mut [u8], at: usize) -> usize
 fn put_clause(groups: &[i32], head: u16, body: &[i32], out: &mut [u8], at: usize) -> usize
     requires { ⌜ length (now groups) + length (now body) ≤ 40 ⌝ }
     requires { ⌜ at + (5 + 2 * length (now groups) + 2 * length (now body)) ≤ length (now out) ⌝ }
-    ensures { λ r. ⌜ Wrote (now (out .entry)) at (clauseBytes (clauseFrom (sizes (now (groups .entry))) head (sizes (now (body .entry))))) (now (out .exit)) r ⌝ }
+    ensures { λ r. ⌜ Wrote (now (out .entry)) at (clauseBytes (clauseFrom (amounts (now (groups .entry))) head (amounts (now (body .entry))))) (now (out .exit)) r ⌝ }
 {
     let n = 2 * groups.len() + 2 + 2 * body.len();
     let a = field::put_front(2, n as u16, out, at);
-    let b = put_sizes(groups, out, a);
+    let b = put_amounts(groups, out, a);
     let c = field::put_word(head, out, b);
-    put_sizes(body, out, c)
+    put_amounts(body, out, c)
 }
 
 // Writes the clauses of a plain form that was taken, and the end, from 7 on.

@@ -25,11 +25,11 @@ wrong-number-requires-2 c κs = search needs
 returns-4 : tie.Need-returns-4
 returns-4 c = take-groups _ (c .before .before .before .before .before .if1 .left) _ (c .before .before .before .before .wrong-number .ensures) (c .before .before .before .if2 .left) (c .before .before .if3 .left) _ (c .before .wrong-number2 .ensures) (c .if4 .taken)
 
-size-at-requires : tie.Need-size-at-requires
-size-at-requires c κs = search needs
+amount-at-requires : tie.Need-amount-at-requires
+amount-at-requires c κs = search needs
 
-size-at-requires-2 : tie.Need-size-at-requires-2
-size-at-requires-2 c κs = search needs
+amount-at-requires-2 : tie.Need-amount-at-requires-2
+amount-at-requires-2 c κs = search needs
 
 take-clauses-requires : tie.Need-take-clauses-requires
 take-clauses-requires c κs = search needs
@@ -38,7 +38,7 @@ returns-5 : tie.Need-returns-5
 returns-5 c =
     c .take-clauses .ensures
     ∙ take-whole _ (c .before .before .before .before .before .before .before .before .if1 .left) _ (c .before .before .before .before .before .before .before .wrong-number .ensures) (c .before .before .before .before .before .before .if2 .left) (c .before .before .before .before .before .if3 .left) _ (c .before .before .before .before .wrong-number2 .ensures) (c .before .before .before .if4 .left) _ _
-    (c .before .before .size-at .ensures) (c .before .size-at2 .ensures)
+    (c .before .before .amount-at .ensures) (c .before .amount-at2 .ensures)
 
 pub take-spec : {M : Type 1} → statement M
 take-spec =
@@ -50,7 +50,7 @@ take-spec =
     returns-3
     wrong-number-requires-2
     returns-4
-    size-at-requires
-    size-at-requires-2
+    amount-at-requires
+    amount-at-requires-2
     take-clauses-requires
     returns-5)

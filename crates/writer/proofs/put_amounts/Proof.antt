@@ -1,4 +1,4 @@
--- `writer::put_sizes` meets its contract. The loop's invariant is `Writing`: what is left of the part is what is left to be written.
+-- `writer::put_amounts` meets its contract. The loop's invariant is `Writing`: what is left of the part is what is left to be written.
 -- Assumes nothing.
 use Prim.Native.Nat.{_+_, _≤_}
 use mathlib.Core.Path.{_≡_, ap, _∙_}
@@ -9,15 +9,15 @@ use lib.ListN.{length, length-append}
 use Rattle.field.specs.Words.{wordBytes}
 use Rattle.field.proofs.Words.{length-wordBytes}
 use Rattle.answer.proofs.Spaces.{Writing, writing-start, writing-room, writing-length, writing-next, writing-end}
-use Rattle.writer.specs.Steps.{sizes}
+use Rattle.writer.specs.Steps.{amounts}
 use Rattle.writer.proofs.Firsts.{tail-length}
-use Rattle.writer.proofs.Copying.{length-sizes, sizes-none, sizes-more}
+use Rattle.writer.proofs.Copying.{length-amounts, amounts-none, amounts-more}
 use borrow.Author.Needs.{needs}
-use Rattle.writer.proofs.put_sizes.Statement.{statement}
-use Rattle.writer.proofs.put_sizes.Tie as tie
+use Rattle.writer.proofs.put_amounts.Statement.{statement}
+use Rattle.writer.proofs.put_amounts.Tie as tie
 
 abbrev Inv-loop : tie.InvT-loop
-Inv-loop part out₀ at t₀ i₀ out t i = Writing (wordBytes (sizes part)) out₀ at out i (wordBytes (sizes t))
+Inv-loop part out₀ at t₀ i₀ out t i = Writing (wordBytes (amounts part)) out₀ at out i (wordBytes (amounts t))
 
 abbrev μ-loop : tie.MeasureT-loop
 μ-loop part out₀ at t₀ i₀ out t i = length t
@@ -34,17 +34,17 @@ room c =
     let t = l .t .now in
     omega (
       arith,
-      writing-room _ _ _ _ _ _ (l .inv) (omega (arith, a .pre, length-wordBytes (sizes p), length-sizes p)),
-      length-wordBytes (sizes t),
-      length-sizes t,
+      writing-room _ _ _ _ _ _ (l .inv) (omega (arith, a .pre, length-wordBytes (amounts p), length-amounts p)),
+      length-wordBytes (amounts t),
+      length-amounts t,
       c .loop-test .taken,
     )
 
 loop-holds : tie.Need-loop-holds Inv-loop μ-loop
 loop-holds c = writing-start _ _ _
 
-size-at-requires : tie.Need-size-at-requires Inv-loop μ-loop
-size-at-requires c κs = search needs
+amount-at-requires : tie.Need-amount-at-requires Inv-loop μ-loop
+amount-at-requires c κs = search needs
 
 put-word-requires : tie.Need-put-word-requires Inv-loop μ-loop
 put-word-requires c κs = room (c .before .before)
@@ -64,22 +64,22 @@ loop-less c = omega (arith, tail-length (c .before .before .before .before .befo
 loop-again : tie.Need-loop-again Inv-loop μ-loop
 loop-again c =
     let l = c .before .before .before .before .before .before .before .loop in
-    writing-next _ _ _ _ _ _ (l .inv) _ _ _ _ (sizes-more (l .t .now) _ (some (c .before .before .before .before .before .before)) (c .before .before .before .before .before .size-at .ensures)) (c .before .before .before .put-word .ensures)
+    writing-next _ _ _ _ _ _ (l .inv) _ _ _ _ (amounts-more (l .t .now) _ (some (c .before .before .before .before .before .before)) (c .before .before .before .before .before .amount-at .ensures)) (c .before .before .before .put-word .ensures)
 
 same-length : tie.Need-same-length Inv-loop μ-loop
 same-length c = writing-length _ _ _ _ _ _ (c .before .loop .inv)
 
 returns : tie.Need-returns Inv-loop μ-loop
-returns c = writing-end _ _ _ _ _ _ (c .before .loop .inv) (sizes-none _ (c .loop-test .left))
+returns c = writing-end _ _ _ _ _ _ (c .before .loop .inv) (amounts-none _ (c .loop-test .left))
 
-pub put-sizes-spec : {M : Type 1} → statement M
-put-sizes-spec =
+pub put-amounts-spec : {M : Type 1} → statement M
+put-amounts-spec =
     tie.close
     (tie.spec
     Inv-loop
     μ-loop
     loop-holds
-    size-at-requires
+    amount-at-requires
     put-word-requires
     sub-t
     part-t-start

@@ -1,11 +1,11 @@
--- `signed::size_at` meets its contract.
+-- `signed::amount_at` meets its contract.
 -- Assumes nothing.
 use Prim.Native.Nat.{ℕ, _%_}
 use mathlib.Core.Path.{sym, ap, _∙_}
 use Rattle.signed.proofs.Split.{size-plus, size-minus}
 use borrow.Author.Needs.{needs}
-use Rattle.signed.proofs.size_at.Statement.{statement}
-use Rattle.signed.proofs.size_at.Tie as tie
+use Rattle.signed.proofs.amount_at.Statement.{statement}
+use Rattle.signed.proofs.amount_at.Tie as tie
 
 number-at-requires : tie.Need-number-at-requires
 number-at-requires c κs = search needs
@@ -28,8 +28,8 @@ returns c = ap (λ (k : ℕ). k % 65536) (size-plus _ _ (sym (c .before .before 
 returns-2 : tie.Need-returns-2
 returns-2 c = ap (λ (k : ℕ). k % 65536) (size-minus _ _ (sym (c .before .before .before .number-at .ensures) ∙ c .before .n2 .given .1))
 
-pub size-at-spec : {M : Type 1} → statement M
-size-at-spec =
+pub amount-at-spec : {M : Type 1} → statement M
+amount-at-spec =
     tie.close
     (tie.spec
     number-at-requires

@@ -147,7 +147,7 @@ pub fn fill_bytes(out: &mut [u8])
     }
 }
 
-pub fn word_before(k: usize) -> u16
+fn word_before(k: usize) -> u16
     ensures { λ r. ⌜ r ≡ wordAt k ⌝ }
 {
     ((k % 65535 * 7919 + 65534) % 65535 + 1) as u16

@@ -57,7 +57,7 @@ fn wrong_body(n: u32, variables: u16, head: u16, last: u16, count: u16) -> u8
 }
 
 // What the numbers of a clause after its group are found to be.
-pub enum Scan {
+enum Scan {
     Closed { head: u16, count: u16, next: usize },
     Wrong { number: u8, place: usize },
 }
@@ -123,7 +123,7 @@ fn wrong_number(s: &[i32], at: usize, low: u16, high: u16) -> u8
 }
 
 // What taking a plain form answers: the header's numbers and the length of the book that is to be written, or the refusal.
-pub enum Taken {
+enum Taken {
     Book {
         variables: u16,
         groups: u16,

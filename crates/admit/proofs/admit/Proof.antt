@@ -18,20 +18,8 @@ accepted c =
     check-book _ _ _ _ (bytes-at (now (c .before .before .before .before .args .book)) (λ i. c .before .before .before .shared-slice-known .given i .fits))
     (sym (ap checkedIs (c .variables .given .1)) ∙ c .before .before .check .ensures)
 
-check-requires : tie.Need-check-requires
-check-requires c κs = search needs
-
-enum-known-number : tie.Need-enum-known-number
-enum-known-number c = search needs
-
-enum-known-variables : tie.Need-enum-known-variables
-enum-known-variables c = search needs
-
 lacking-requires : tie.Need-lacking-requires
 lacking-requires c κs = let k = accepted (c .before) in omega (arith, k .groups, well-formed _ (k .is) .groups)
-
-cast-t11 : tie.Need-cast-t11
-cast-t11 c = search needs
 
 returns : tie.Need-returns
 returns c = let k = accepted (c .before .before .before) in told-no _ _ _ (admit-lacks _ _ (k .is .read) _ _ (k .groups) (c .before .lacking .ensures) (c .if1 .taken))
@@ -46,11 +34,11 @@ pub admit-spec : {M : Type 1} → statement M
 admit-spec =
     tie.close
     (tie.spec
-    check-requires
-    enum-known-number
-    enum-known-variables
+    (λ c κs. search needs)
+    (λ c. search needs)
+    (λ c. search needs)
     lacking-requires
-    cast-t11
+    (λ c. search needs)
     returns
     returns-2
     returns-3)

@@ -18,23 +18,11 @@ abbrev μ-loop : tie.MeasureT-loop
 loop-holds : tie.Need-loop-holds Inv-loop μ-loop
 loop-holds c = (refl, c .pre)
 
-cast-k : tie.Need-cast-k Inv-loop μ-loop
-cast-k c = search needs
-
 has-requires : tie.Need-has-requires Inv-loop μ-loop
 has-requires c κs = omega (arith, c .loop-test .taken)
 
-add-result : tie.Need-add-result Inv-loop μ-loop
-add-result c = search needs
-
 returns : tie.Need-returns Inv-loop μ-loop
 returns c = lack-here (c .before .before .before .loop .g) (c .before .before .before .before .args .choice) (omega (arith, c .before .before .loop-test .taken)) (sym (c .before .has .ensures) ∙ c .if1 .taken) ∙ sym (c .before .before .before .loop .inv .0)
-
-add-g : tie.Need-add-g Inv-loop μ-loop
-add-g c = search needs
-
-loop-less : tie.Need-loop-less Inv-loop μ-loop
-loop-less c = search needs
 
 loop-again : tie.Need-loop-again Inv-loop μ-loop
 loop-again c = (c .before .before .before .loop .inv .0 ∙ lack-next (c .before .before .before .loop .g) (c .before .before .before .before .args .choice) (omega (arith, c .before .before .loop-test .taken)) (sym (c .before .has .ensures) ∙ c .if1 .left), omega (arith, c .before .before .loop-test .taken))
@@ -49,11 +37,11 @@ lacking-spec =
     Inv-loop
     μ-loop
     loop-holds
-    cast-k
+    (λ c. search needs)
     has-requires
-    add-result
+    (λ c. search needs)
     returns
-    add-g
-    loop-less
+    (λ c. search needs)
+    (λ c. search needs)
     loop-again
     returns-2)

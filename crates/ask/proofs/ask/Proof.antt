@@ -19,18 +19,6 @@ has c =
     admit-book _ _ _ _ (bytes-at (now (a .book)) (λ i. c .before .before .before .before .before .shared-slice-known .given i .fits))
     (sym (ap admittedIs (c .variables .given .1)) ∙ c .before .before .admit .ensures)
 
-admit-requires : tie.Need-admit-requires
-admit-requires c κs = search needs
-
-enum-known-number : tie.Need-enum-known-number
-enum-known-number c = search needs
-
-enum-known-variables : tie.Need-enum-known-variables
-enum-known-variables c = search needs
-
-cast-if1 : tie.Need-cast-if1
-cast-if1 c = search needs
-
 returns : tie.Need-returns
 returns c = told-no _ _ _ _ _ _ (asks-short _ _ _ _ _ _ (has (c .before .before)) (c .if1 .taken))
 
@@ -40,12 +28,6 @@ returns-2 c = told-no _ _ _ _ _ _ (asks-tight _ _ _ (length (now (c .before .bef
 answer-requires : tie.Need-answer-requires
 answer-requires c κs = let k = has (c .before .before .before .before .before) in (k .is, k .variables, c .before .before .before .if1 .left, c .before .before .if2 .left)
 
-same-length : tie.Need-same-length
-same-length c = search needs
-
-same-length-2 : tie.Need-same-length-2
-same-length-2 c = search needs
-
 returns-3 : tie.Need-returns-3
 returns-3 c =
     let a = c .before .before .before .before .before .answer .ensures in
@@ -53,12 +35,6 @@ returns-3 c =
 
 returns-4 : tie.Need-returns-4
 returns-4 c = told-no _ _ _ _ _ _ (asks-no _ _ _ _ _ _ (admit-no _ _ _ (sym (ap admittedIs (c .before .number .given .1)) ∙ c .before .before .before .admit .ensures)))
-
-same-length-3 : tie.Need-same-length-3
-same-length-3 c = search needs
-
-same-length-4 : tie.Need-same-length-4
-same-length-4 c = search needs
 
 returns-5 : tie.Need-returns-5
 returns-5 c =
@@ -69,17 +45,17 @@ pub ask-spec : {M : Type 1} → statement M
 ask-spec =
     tie.close
     (tie.spec
-    admit-requires
-    enum-known-number
-    enum-known-variables
-    cast-if1
+    (λ c κs. search needs)
+    (λ c. search needs)
+    (λ c. search needs)
+    (λ c. search needs)
     returns
     returns-2
     answer-requires
-    same-length
-    same-length-2
+    (λ c. search needs)
+    (λ c. search needs)
     returns-3
     returns-4
-    same-length-3
-    same-length-4
+    (λ c. search needs)
+    (λ c. search needs)
     returns-5)

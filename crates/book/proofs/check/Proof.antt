@@ -20,9 +20,6 @@ ok c = header-ok _ (right c)
 returns : tie.Need-returns
 returns c = check-long _ (c .if1 .taken)
 
-wrong-header-requires : tie.Need-wrong-header-requires
-wrong-header-requires c κs = search needs
-
 returns-2 : tie.Need-returns-2
 returns-2 c = check-bad _ (c .before .before .if1 .left) _ (c .before .wrong-header .ensures) (c .if2 .taken)
 
@@ -43,7 +40,7 @@ check-spec =
     tie.close
     (tie.spec
     returns
-    wrong-header-requires
+    (λ c κs. search needs)
     returns-2
     word-at-requires
     word-at-requires-2

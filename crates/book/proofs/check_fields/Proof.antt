@@ -28,20 +28,8 @@ ok c = field-ok _ _ _ _ (right c)
 long : (c : tie.Then3 Inv-loop μ-loop) → c .before .before .before .size-of .result ≡ 3
 long c = omega (arith, c .before .before .before .size-of .ensures, ok (c .before .before .before .before) .ends (c .before .if2 .taken))
 
-sub-rest : tie.Need-sub-rest Inv-loop μ-loop
-sub-rest c = search needs
-
-part-rest-start : tie.Need-part-rest-start Inv-loop μ-loop
-part-rest-start c = search needs
-
-part-rest-end : tie.Need-part-rest-end Inv-loop μ-loop
-part-rest-end c = search needs
-
 loop-holds : tie.Need-loop-holds Inv-loop μ-loop
 loop-holds c = passed-start _ _ _ (c .before .before .pre .0) (c .before .before .pre .1)
-
-wrong-field-requires : tie.Need-wrong-field-requires Inv-loop μ-loop
-wrong-field-requires c κs = search needs
 
 returns : tie.Need-returns Inv-loop μ-loop
 returns c = passed-bad _ _ _ _ _ _ (c .before .before .loop .inv) _ (c .before .wrong-field .ensures) (c .if1 .taken)
@@ -91,11 +79,11 @@ check-fields-spec =
     (tie.spec
     Inv-loop
     μ-loop
-    sub-rest
-    part-rest-start
-    part-rest-end
+    (λ c. search needs)
+    (λ c. search needs)
+    (λ c. search needs)
     loop-holds
-    wrong-field-requires
+    (λ c κs. search needs)
     returns
     size-of-requires
     shared-slice-read-if2

@@ -10,15 +10,9 @@ returns : tie.Need-returns
 unfolding frontOf
 returns c = simp (lt-ltb _ _ (c .if1 .taken))
 
-word-at-requires : tie.Need-word-at-requires
-word-at-requires c κs = search needs
-
-size-of-requires : tie.Need-size-of-requires
-size-of-requires c κs = search needs
-
 returns-2 : tie.Need-returns-2
 unfolding frontOf
 returns-2 c = simp (← c .before .word-at .ensures, ← c .size-of .ensures, le-ltb _ _ (c .before .before .if1 .left))
 
 pub front-of-spec : {M : Type 1} → statement M
-front-of-spec = tie.close (tie.spec returns word-at-requires size-of-requires returns-2)
+front-of-spec = tie.close (tie.spec returns (λ c κs. search needs) (λ c κs. search needs) returns-2)

@@ -10,9 +10,6 @@ use borrow.Author.Needs.{needs}
 use Rattle.book.proofs.wrong_clause.Statement.{statement}
 use Rattle.book.proofs.wrong_clause.Tie as tie
 
-wrong-shape-requires : tie.Need-wrong-shape-requires
-wrong-shape-requires c κs = search needs
-
 returns : tie.Need-returns
 unfolding wrongClause
 returns c = c .before .wrong-shape .ensures ∙ sym (or-some _ _ (λ z. c .if1 .taken (c .before .wrong-shape .ensures ∙ z)))
@@ -26,4 +23,4 @@ returns-2 c = c .wrong-numbers .ensures ∙ sym (or-none _ _ (sym (c .before .be
 
 pub wrong-clause-spec : {M : Type 1} → statement M
 wrong-clause-spec =
-    tie.close (tie.spec wrong-shape-requires returns wrong-numbers-requires returns-2)
+    tie.close (tie.spec (λ c κs. search needs) returns wrong-numbers-requires returns-2)

@@ -19,9 +19,6 @@ start c = sym (c .before .wrong-start .ensures) ∙ c .if1 .left
 ok : (c : tie.Else1) → StartOk (now (c .before .before .before .args .rest))
 ok c = start-ok _ (start c)
 
-wrong-start-requires : tie.Need-wrong-start-requires
-wrong-start-requires c κs = search needs
-
 returns : tie.Need-returns
 unfolding wrongField
 returns c = c .before .wrong-start .ensures ∙ sym (or-some _ _ (λ z. c .if1 .taken (c .before .wrong-start .ensures ∙ z)))
@@ -55,7 +52,7 @@ pub wrong-field-spec : {M : Type 1} → statement M
 wrong-field-spec =
     tie.close
     (tie.spec
-    wrong-start-requires
+    (λ c κs. search needs)
     returns
     shared-slice-read-tag
     returns-2

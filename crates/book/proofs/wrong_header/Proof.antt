@@ -25,9 +25,6 @@ ok c = start-ok _ (start c)
 eq : (c : tie.Else3) → 7 ≤ length (now (c .before .before .before .before .before .before .before .args .rest))
 eq c = omega (arith, ok (c .before .before .before .before) .fits, c .if3 .left, c .before .word-at .ensures)
 
-wrong-start-requires : tie.Need-wrong-start-requires
-wrong-start-requires c κs = search needs
-
 returns : tie.Need-returns
 unfolding wrongHeader
 returns c = c .before .wrong-start .ensures ∙ sym (or-some _ _ (λ z. c .if1 .taken (c .before .wrong-start .ensures ∙ z)))
@@ -121,7 +118,7 @@ pub wrong-header-spec : {M : Type 1} → statement M
 wrong-header-spec =
     tie.close
     (tie.spec
-    wrong-start-requires
+    (λ c κs. search needs)
     returns
     shared-slice-read-if2
     returns-2

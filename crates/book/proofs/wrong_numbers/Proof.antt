@@ -12,9 +12,6 @@ use borrow.Author.Needs.{needs}
 use Rattle.book.proofs.wrong_numbers.Statement.{statement}
 use Rattle.book.proofs.wrong_numbers.Tie as tie
 
-word-at-requires : tie.Need-word-at-requires
-word-at-requires c κs = search needs
-
 returns : tie.Need-returns
 unfolding first
 returns c =
@@ -22,9 +19,6 @@ returns c =
       ← c .before .word-at .ensures,
       lt-ltb _ _ (c .if1 .taken),
     )
-
-word-at-requires-2 : tie.Need-word-at-requires-2
-word-at-requires-2 c κs = search needs
 
 returns-2 : tie.Need-returns-2
 unfolding first
@@ -36,9 +30,6 @@ returns-2 c =
       lt-ltb _ _ (c .if2 .taken),
     )
 
-size-of-requires : tie.Need-size-of-requires
-size-of-requires c κs = search needs
-
 sub-body : tie.Need-sub-body
 sub-body c = omega (arith, c .size-of .ensures)
 
@@ -47,12 +38,6 @@ part-body-start c = omega (arith, c .size-of .ensures)
 
 part-body-end : tie.Need-part-body-end
 part-body-end c = omega (arith, c .size-of .ensures)
-
-all-within-requires : tie.Need-all-within-requires
-all-within-requires c κs = search needs
-
-is-rising-requires : tie.Need-is-rising-requires
-is-rising-requires c κs = search needs
 
 -- where the group and the head are right, the body's two tests decide
 decided : (c : tie.After-is-rising)
@@ -94,16 +79,16 @@ pub wrong-numbers-spec : {M : Type 1} → statement M
 wrong-numbers-spec =
     tie.close
     (tie.spec
-    word-at-requires
+    (λ c κs. search needs)
     returns
-    word-at-requires-2
+    (λ c κs. search needs)
     returns-2
-    size-of-requires
+    (λ c κs. search needs)
     sub-body
     part-body-start
     part-body-end
-    all-within-requires
-    is-rising-requires
+    (λ c κs. search needs)
+    (λ c κs. search needs)
     returns-3
     returns-4
     returns-5)

@@ -6,9 +6,6 @@ use borrow.Author.Needs.{needs}
 use Rattle.book.proofs.wrong_shape.Statement.{statement}
 use Rattle.book.proofs.wrong_shape.Tie as tie
 
-word-at-requires : tie.Need-word-at-requires
-word-at-requires c κs = search needs
-
 returns : tie.Need-returns
 unfolding first
 returns c = simp (← c .before .word-at .ensures, lt-ltb _ _ (c .if1 .taken))
@@ -31,4 +28,4 @@ returns-5 c = simp (← c .before .before .before .before .word-at .ensures, le-
 
 pub wrong-shape-spec : {M : Type 1} → statement M
 wrong-shape-spec =
-    tie.close (tie.spec word-at-requires returns returns-2 returns-3 returns-4 returns-5)
+    tie.close (tie.spec (λ c κs. search needs) returns returns-2 returns-3 returns-4 returns-5)

@@ -9,9 +9,6 @@ use borrow.Author.Needs.{needs}
 use Rattle.book.proofs.wrong_start.Statement.{statement}
 use Rattle.book.proofs.wrong_start.Tie as tie
 
-is-short-requires : tie.Need-is-short-requires
-is-short-requires c κs = search needs
-
 returns : tie.Need-returns
 unfolding first
 returns c = simp (sym (c .before .is-short .ensures) ∙ c .if1 .taken)
@@ -29,4 +26,4 @@ returns-3 c = simp (sym (c .before .before .before .is-short .ensures) ∙ c .be
 
 pub wrong-start-spec : {M : Type 1} → statement M
 wrong-start-spec =
-    tie.close (tie.spec is-short-requires returns shared-slice-read-if2 returns-2 returns-3)
+    tie.close (tie.spec (λ c κs. search needs) returns shared-slice-read-if2 returns-2 returns-3)

@@ -11,61 +11,22 @@ Inv-loop k₀ k = k ≤ 100000
 abbrev μ-loop : tie.MeasureT-loop
 μ-loop k₀ k = 100000 - k
 
-loop-holds : tie.Need-loop-holds Inv-loop μ-loop
-loop-holds c = search needs
-
-next-call-requires : tie.Need-next-call-requires Inv-loop μ-loop
-next-call-requires c κs = search needs
-
-returns : tie.Need-returns Inv-loop μ-loop
-returns c = search needs
-
-next-four-requires : tie.Need-next-four-requires Inv-loop μ-loop
-next-four-requires c κs = search needs
-
-cast-n : tie.Need-cast-n Inv-loop μ-loop
-cast-n c = search needs
-
-next-four-requires-2 : tie.Need-next-four-requires-2 Inv-loop μ-loop
-next-four-requires-2 c κs = search needs
-
-cast-room : tie.Need-cast-room Inv-loop μ-loop
-cast-room c = search needs
-
-case-of-numbers-requires : tie.Need-case-of-numbers-requires Inv-loop μ-loop
-case-of-numbers-requires c κs = search needs
-
-case-of-bytes-requires : tie.Need-case-of-bytes-requires Inv-loop μ-loop
-case-of-bytes-requires c κs = search needs
-
-add-k : tie.Need-add-k Inv-loop μ-loop
-add-k c = search needs
-
-loop-less : tie.Need-loop-less Inv-loop μ-loop
-loop-less c = search needs
-
-loop-again : tie.Need-loop-again Inv-loop μ-loop
-loop-again c = search needs
-
-returns-2 : tie.Need-returns-2 Inv-loop μ-loop
-returns-2 c = search needs
-
 pub main-spec : {M : Type 1} → statement M
 main-spec =
     tie.close
     (tie.spec
     Inv-loop
     μ-loop
-    loop-holds
-    next-call-requires
-    returns
-    next-four-requires
-    cast-n
-    next-four-requires-2
-    cast-room
-    case-of-numbers-requires
-    case-of-bytes-requires
-    add-k
-    loop-less
-    loop-again
-    returns-2)
+    (λ c. search needs)
+    (λ c κs. search needs)
+    (λ c. search needs)
+    (λ c κs. search needs)
+    (λ c. search needs)
+    (λ c κs. search needs)
+    (λ c. search needs)
+    (λ c κs. search needs)
+    (λ c κs. search needs)
+    (λ c. search needs)
+    (λ c. search needs)
+    (λ c. search needs)
+    (λ c. search needs))

@@ -19,24 +19,9 @@ below (suc n) = let a : 0 + n ≡ n = omega arith in simp a
 below-fits : (n : ℕ) → n < 2 ^ 31 → SFits w32 (negsuc 0 -ℤ toZ w32 n)
 below-fits n h = simp (toZ-pos w32 n h, below n) (record { sfits = h })
 
-cast-result : tie.Need-cast-result
-cast-result c = search needs
-
-returns : tie.Need-returns
-returns c = search needs
-
-sub-result : tie.Need-sub-result
-sub-result c = search needs
-
-cast-result-2 : tie.Need-cast-result-2
-cast-result-2 c = search needs
-
 sub-result-2 : tie.Need-sub-result-2
 sub-result-2 c = below-fits (4294967295 - c .before .args .u) (omega arith)
 
-returns-2 : tie.Need-returns-2
-returns-2 c = search needs
-
 pub signed-of-spec : {M : Type 1} → statement M
 signed-of-spec =
-    tie.close (tie.spec cast-result returns sub-result cast-result-2 sub-result-2 returns-2)
+    tie.close (tie.spec (λ c. search needs) (λ c. search needs) (λ c. search needs) (λ c. search needs) sub-result-2 (λ c. search needs))

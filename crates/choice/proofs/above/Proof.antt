@@ -9,9 +9,6 @@ use Rattle.choice.proofs.Groups.{above-le, above-is}
 use lib.Pow.{pow-pos}
 use native.Mathlib.Nat.{div-le-self, div-mul-le-self}
 
-bit-requires : tie.Need-bit-requires
-bit-requires c κs = search needs
-
 div-result : tie.Need-div-result
 div-result c = omega (arith, c .bit .ensures, pow-pos (c .before .args .g))
 
@@ -25,4 +22,4 @@ returns : tie.Need-returns
 returns c = above-is _ _ _ (c .bit .ensures)
 
 pub above-spec : {M : Type 1} → statement M
-above-spec = tie.close (tie.spec bit-requires div-result mul-result mul-result-2 returns)
+above-spec = tie.close (tie.spec (λ c κs. search needs) div-result mul-result mul-result-2 returns)

@@ -12,14 +12,8 @@ returns c =
     let e : c .before .args .n ≡ 32 = omega (arith, c .if1 .taken, c .before .pre) in
     rw e refl
 
-bit-requires : tie.Need-bit-requires
-bit-requires c κs = search needs
-
 sub-result : tie.Need-sub-result
 sub-result c = omega (arith, c .bit .ensures, pow-pos (c .before .before .args .n))
 
-returns-2 : tie.Need-returns-2
-returns-2 c = search needs
-
 pub all-spec : {M : Type 1} → statement M
-all-spec = tie.close (tie.spec returns bit-requires sub-result returns-2)
+all-spec = tie.close (tie.spec returns (λ c κs. search needs) sub-result (λ c. search needs))

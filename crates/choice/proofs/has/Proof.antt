@@ -5,11 +5,8 @@ use Rattle.choice.proofs.has.Statement.{statement}
 use Rattle.choice.proofs.has.Tie as tie
 use Rattle.choice.proofs.Groups.{has-is}
 
-shr-result : tie.Need-shr-result
-shr-result c = search needs
-
 returns : tie.Need-returns
 returns c = has-is _ _
 
 pub has-spec : {M : Type 1} → statement M
-has-spec = tie.close (tie.spec shr-result returns)
+has-spec = tie.close (tie.spec (λ c. search needs) returns)

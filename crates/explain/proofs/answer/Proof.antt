@@ -31,12 +31,6 @@ smallest-within-requires c κs =
     let p = c .before .before .before .pre in
     (p .0, p .2, p .3, length-take-le _ _ (fits-in (c .before .before .before)) ∙ p .1)
 
-clear-requires : tie.Need-clear-requires
-clear-requires c κs = search needs
-
-same-length : tie.Need-same-length
-same-length c = search needs
-
 returns : tie.Need-returns
 returns c =
     let w = c .before .before .before .before .before .before .smallest-within in
@@ -50,6 +44,6 @@ answer-spec =
     slice-relend-prefix-smallest-within
     slice-aggregate-smallest-within
     smallest-within-requires
-    clear-requires
-    same-length
+    (λ c κs. search needs)
+    (λ c. search needs)
     returns)

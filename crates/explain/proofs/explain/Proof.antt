@@ -21,15 +21,6 @@ has c =
     admit-book _ _ _ _ (bytes-at (now (a .book)) (λ i. c .before .before .before .before .shared-slice-known .given i .fits))
     (sym (ap admittedIs (c .variables .given .1)) ∙ c .before .before .admit .ensures)
 
-admit-requires : tie.Need-admit-requires
-admit-requires c κs = search needs
-
-enum-known-number : tie.Need-enum-known-number
-enum-known-number c = search needs
-
-enum-known-variables : tie.Need-enum-known-variables
-enum-known-variables c = search needs
-
 returns : tie.Need-returns
 returns c = told-no _ _ _ _ _ (explains-tight _ _ (length (now (c .before .before .before .before .before .before .before .args .work))) _ _ (has (c .before .before)) (omega (arith, c .if1 .taken)))
 
@@ -39,25 +30,13 @@ answer-requires c κs =
     let f : c .before .before .before .before .before .before .before .before .args .choice < 2 ^ mostGroups = omega (arith, c .before .before .before .before .before .before .before .before .fits .choice) in
     (k .is, k .variables, k .groups, rw (k .groups) (choice-fits _ _ _ f (k .has)), c .before .if1 .left)
 
-enum-told : tie.Need-enum-told
-enum-told c = search needs
-
-enum-known-groups : tie.Need-enum-known-groups
-enum-known-groups c = search needs
-
 returns-2 : tie.Need-returns-2
 returns-2 c = told-no _ _ _ _ _ (explains-no _ _ _ _ _ (admit-no _ _ _ (sym (ap admittedIs (c .before .number .given .1)) ∙ c .before .before .before .admit .ensures)))
-
-same-length : tie.Need-same-length
-same-length c = search needs
 
 returns-3 : tie.Need-returns-3
 returns-3 c =
     let a = c .before .before .before .before .answer .ensures in
     told-none _ _ _ _ _ (explains-goes _ _ _ _ _ (has (c .before .before .before .before .before .before .before .before)) (c .before .before .before .before .before .before .if1 .left)) _ (a .0) (a .1) (c .enum-told .given .1)
-
-same-length-2 : tie.Need-same-length-2
-same-length-2 c = search needs
 
 returns-4 : tie.Need-returns-4
 returns-4 c =
@@ -68,15 +47,15 @@ pub explain-spec : {M : Type 1} → statement M
 explain-spec =
     tie.close
     (tie.spec
-    admit-requires
-    enum-known-number
-    enum-known-variables
+    (λ c κs. search needs)
+    (λ c. search needs)
+    (λ c. search needs)
     returns
     answer-requires
-    enum-told
-    enum-known-groups
+    (λ c. search needs)
+    (λ c. search needs)
     returns-2
-    same-length
+    (λ c. search needs)
     returns-3
-    same-length-2
+    (λ c. search needs)
     returns-4)

@@ -36,17 +36,11 @@ own c = c .transition .ensures ∙ next c .own
 size : (c : tie.After-weight Inv-loop μ-loop) → c .weight .result ≡ 2 ^ (c .before .before .before .loop .level - 1)
 size c = c .weight .ensures ∙ ap (λ (g : ℕ). 2 ^ (g - 1)) (own (c .before))
 
-fill-requires : tie.Need-fill-requires Inv-loop μ-loop
-fill-requires c κs = search needs
-
 goal-level-requires : tie.Need-goal-level-requires Inv-loop μ-loop
 goal-level-requires c κs =
     let p = c .before .before .before .before .before .before .before .pre in
     let f = c .before .before .before .fill in
     (p .0, none-apart _, omega (arith, f .kept .0, p .3), falling-start _ _ _ _ (f .ensures ∙ ap (λ (n : ℕ). replicate n never) (p .3)))
-
-same-length : tie.Need-same-length Inv-loop μ-loop
-same-length c = search needs
 
 returns : tie.Need-returns Inv-loop μ-loop
 returns c =
@@ -58,9 +52,6 @@ loop-holds c =
     let p = c .before .before .before .before .before .before .before .before .before .before .before .pre in
     let g = c .before .before .before .goal-level in
     (omega (arith, g .kept .1 .1 .1 .0, c .before .before .before .before .before .before .before .fill .kept .0, p .3), g .ensures .1, inserting-start _ (p .0) _ _ (p .1) (p .2) _ (g .ensures .0) (c .if1 .left))
-
-transition-requires : tie.Need-transition-requires Inv-loop μ-loop
-transition-requires c κs = search needs
 
 weight-requires : tie.Need-weight-requires Inv-loop μ-loop
 weight-requires c κs = (omega (arith, next c .some, own c), omega (arith, next c .most, own c))
@@ -110,12 +101,12 @@ smallest-within-spec =
     (tie.spec
     Inv-loop
     μ-loop
-    fill-requires
+    (λ c κs. search needs)
     goal-level-requires
-    same-length
+    (λ c. search needs)
     returns
     loop-holds
-    transition-requires
+    (λ c κs. search needs)
     weight-requires
     add-kept
     rem-pool

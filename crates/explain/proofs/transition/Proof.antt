@@ -19,12 +19,6 @@ abbrev μ-loop : tie.MeasureT-loop
 loop-holds : tie.Need-loop-holds Inv-loop μ-loop
 loop-holds c = (reach-start _ _, omega arith)
 
-cast-k : tie.Need-cast-k Inv-loop μ-loop
-cast-k c = search needs
-
-add-g : tie.Need-add-g Inv-loop μ-loop
-add-g c = search needs
-
 has-requires : tie.Need-has-requires Inv-loop μ-loop
 has-requires c κs = omega (arith, c .if1 .left)
 
@@ -53,8 +47,8 @@ transition-spec =
     Inv-loop
     μ-loop
     loop-holds
-    cast-k
-    add-g
+    (λ c. search needs)
+    (λ c. search needs)
     has-requires
     loop-less
     loop-again

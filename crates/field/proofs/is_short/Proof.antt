@@ -11,12 +11,9 @@ returns : tie.Need-returns
 unfolding short
 returns c = simp (lt-ltb _ _ (c .if1 .taken))
 
-size-of-requires : tie.Need-size-of-requires
-size-of-requires c κs = search needs
-
 returns-2 : tie.Need-returns-2
 unfolding short
 returns-2 c = simp (← c .size-of .ensures, le-ltb _ _ (c .before .if1 .left))
 
 pub is-short-spec : {M : Type 1} → statement M
-is-short-spec = tie.close (tie.spec returns size-of-requires returns-2)
+is-short-spec = tie.close (tie.spec returns (λ c κs. search needs) returns-2)

@@ -9,12 +9,6 @@ use borrow.Author.Needs.{needs}
 use Rattle.field.proofs.put_front.Statement.{statement}
 use Rattle.field.proofs.put_front.Tie as tie
 
-slice-write-out : tie.Need-slice-write-out
-slice-write-out c = search needs
-
-add-put-word : tie.Need-add-put-word
-add-put-word c = search needs
-
 put-word-requires : tie.Need-put-word-requires
 put-word-requires c κs = simp length-set (omega arith)
 
@@ -26,4 +20,4 @@ returns c = wrote-append _ _ _ _ _ _ _ _ (wrote-one _ _ _) (c .before .before .p
 
 pub put-front-spec : {M : Type 1} → statement M
 put-front-spec =
-    tie.close (tie.spec slice-write-out add-put-word put-word-requires same-length returns)
+    tie.close (tie.spec (λ c. search needs) (λ c. search needs) put-word-requires same-length returns)

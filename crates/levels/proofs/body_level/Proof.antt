@@ -44,29 +44,11 @@ loop-holds c = (refl, c .before .before .pre)
 returns : tie.Need-returns Inv-loop μ-loop
 returns c = capped _ _ _ _ (c .if1 .taken) ∙ ap (min _) (sym (c .before .before .loop .inv .0))
 
-word-at-requires : tie.Need-word-at-requires Inv-loop μ-loop
-word-at-requires c κs = search needs
-
-cast-i : tie.Need-cast-i Inv-loop μ-loop
-cast-i c = search needs
-
 sub-i : tie.Need-sub-i Inv-loop μ-loop
 sub-i c = omega (arith, first c .0)
 
-mul-l : tie.Need-mul-l Inv-loop μ-loop
-mul-l c = search needs
-
 shared-slice-read-l : tie.Need-shared-slice-read-l Inv-loop μ-loop
 shared-slice-read-l c = omega (arith, first (c .before) .0, first (c .before) .1)
-
-sub-t : tie.Need-sub-t Inv-loop μ-loop
-sub-t c = search needs
-
-part-t-start : tie.Need-part-t-start Inv-loop μ-loop
-part-t-start c = search needs
-
-part-t-end : tie.Need-part-t-end Inv-loop μ-loop
-part-t-end c = search needs
 
 loop-less : tie.Need-loop-less Inv-loop μ-loop
 loop-less c = part-shorter (c .before .before .before .before .before .before .loop .t .now) 2 (omega arith) (c .before .before .before .before .before .loop-test .taken)
@@ -98,14 +80,14 @@ body-level-spec =
     μ-loop
     loop-holds
     returns
-    word-at-requires
-    cast-i
+    (λ c κs. search needs)
+    (λ c. search needs)
     sub-i
-    mul-l
+    (λ c. search needs)
     shared-slice-read-l
-    sub-t
-    part-t-start
-    part-t-end
+    (λ c. search needs)
+    (λ c. search needs)
+    (λ c. search needs)
     loop-less
     loop-again
     returns-2

@@ -21,24 +21,6 @@ abbrev μ-loop : tie.MeasureT-loop
 loop-holds : tie.Need-loop-holds Inv-loop μ-loop
 loop-holds c = (refl, refl, omega arith)
 
-mul-carry-level : tie.Need-mul-carry-level Inv-loop μ-loop
-mul-carry-level c = search needs
-
-slice-read-carry-level : tie.Need-slice-read-carry-level Inv-loop μ-loop
-slice-read-carry-level c = search needs
-
-carry-level-requires : tie.Need-carry-level-requires Inv-loop μ-loop
-carry-level-requires c κs = search needs
-
-mul-levels : tie.Need-mul-levels Inv-loop μ-loop
-mul-levels c = search needs
-
-slice-write-levels : tie.Need-slice-write-levels Inv-loop μ-loop
-slice-write-levels c = search needs
-
-add-i : tie.Need-add-i Inv-loop μ-loop
-add-i c = search needs
-
 loop-less : tie.Need-loop-less Inv-loop μ-loop
 loop-less c = omega (arith, c .before .before .before .loop .inv .1, c .before .before .loop-test .taken)
 
@@ -61,12 +43,12 @@ carry-spec =
     Inv-loop
     μ-loop
     loop-holds
-    mul-carry-level
-    slice-read-carry-level
-    carry-level-requires
-    mul-levels
-    slice-write-levels
-    add-i
+    (λ c. search needs)
+    (λ c. search needs)
+    (λ c κs. search needs)
+    (λ c. search needs)
+    (λ c. search needs)
+    (λ c. search needs)
     loop-less
     loop-again
     same-length

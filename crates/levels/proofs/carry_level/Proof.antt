@@ -11,11 +11,8 @@ returns c = level-above _ _ (c .if1 .taken)
 returns-2 : tie.Need-returns-2
 returns-2 c = level-below _ _ (c .if2 .taken)
 
-sub-result : tie.Need-sub-result
-sub-result c = search needs
-
 returns-3 : tie.Need-returns-3
 returns-3 c = level-own _ _ (c .if2 .left) (c .before .if1 .left)
 
 pub carry-level-spec : {M : Type 1} → statement M
-carry-level-spec = tie.close (tie.spec returns returns-2 sub-result returns-3)
+carry-level-spec = tie.close (tie.spec returns returns-2 (λ c. search needs) returns-3)

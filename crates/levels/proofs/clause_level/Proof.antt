@@ -9,16 +9,10 @@ use borrow.Author.Needs.{needs}
 use Rattle.levels.proofs.clause_level.Statement.{statement}
 use Rattle.levels.proofs.clause_level.Tie as tie
 
-groups-level-requires : tie.Need-groups-level-requires
-groups-level-requires c κs = search needs
-
-body-level-requires : tie.Need-body-level-requires
-body-level-requires c κs = search needs
-
 returns : tie.Need-returns
 returns c =
     let a = c .before .before .before .before .before .args in
     c .body-level .ensures ∙ ap (λ (m : ℕ). min (a .cap) (greatest (levelOf (now (a .levels))) m (words (now (a .body))))) (c .before .groups-level .ensures)
 
 pub clause-level-spec : {M : Type 1} → statement M
-clause-level-spec = tie.close (tie.spec groups-level-requires body-level-requires returns)
+clause-level-spec = tie.close (tie.spec (λ c κs. search needs) (λ c κs. search needs) returns)

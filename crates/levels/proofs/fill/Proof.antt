@@ -22,15 +22,6 @@ abbrev μ-loop : tie.MeasureT-loop
 loop-holds : tie.Need-loop-holds Inv-loop μ-loop
 loop-holds c = (fill-none _ never, refl, omega arith)
 
-mul-levels : tie.Need-mul-levels Inv-loop μ-loop
-mul-levels c = search needs
-
-slice-write-levels : tie.Need-slice-write-levels Inv-loop μ-loop
-slice-write-levels c = search needs
-
-add-i : tie.Need-add-i Inv-loop μ-loop
-add-i c = search needs
-
 loop-less : tie.Need-loop-less Inv-loop μ-loop
 loop-less c = omega (arith, c .before .loop .inv .1, c .loop-test .taken)
 
@@ -52,9 +43,9 @@ fill-spec =
     Inv-loop
     μ-loop
     loop-holds
-    mul-levels
-    slice-write-levels
-    add-i
+    (λ c. search needs)
+    (λ c. search needs)
+    (λ c. search needs)
     loop-less
     loop-again
     same-length

@@ -7,15 +7,6 @@ use borrow.Author.Needs.{needs}
 use Rattle.levels.proofs.goal_level.Statement.{statement}
 use Rattle.levels.proofs.goal_level.Tie as tie
 
-settle-requires : tie.Need-settle-requires
-settle-requires c κs = search needs
-
-least-goal-requires : tie.Need-least-goal-requires
-least-goal-requires c κs = search needs
-
-same-length : tie.Need-same-length
-same-length c = search needs
-
 returns : tie.Need-returns
 returns c =
     let p = c .before .before .before .before .before .before .before .before .pre in
@@ -23,4 +14,4 @@ returns c =
     (goal-level _ _ _ _ _ (p .1) w (c .least-goal .ensures), settled-settling _ _ _ _ (heads _ (p .0)) w)
 
 pub goal-level-spec : {M : Type 1} → statement M
-goal-level-spec = tie.close (tie.spec settle-requires least-goal-requires same-length returns)
+goal-level-spec = tie.close (tie.spec (λ c κs. search needs) (λ c κs. search needs) (λ c. search needs) returns)

@@ -9,11 +9,8 @@ use Rattle.levels.proofs.goal_turn.Tie as tie
 returns : tie.Need-returns
 returns c = goal-other _ _ _ _ _ _ _ (c .if1 .taken)
 
-clause-level-requires : tie.Need-clause-level-requires
-clause-level-requires c κs = search needs
-
 returns-2 : tie.Need-returns-2
 returns-2 c = c .clause-level .ensures ∙ goal-own _ _ _ _ _ _ _ (c .before .if1 .left)
 
 pub goal-turn-spec : {M : Type 1} → statement M
-goal-turn-spec = tie.close (tie.spec returns clause-level-requires returns-2)
+goal-turn-spec = tie.close (tie.spec returns (λ c κs. search needs) returns-2)

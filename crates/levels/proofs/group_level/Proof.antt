@@ -11,12 +11,6 @@ use Rattle.levels.proofs.Turns.{level-core, level-kept, level-other}
 returns : tie.Need-returns
 returns c = level-core _ _ _ (c .if1 .taken)
 
-sub-g : tie.Need-sub-g
-sub-g c = search needs
-
-cast-g : tie.Need-cast-g
-cast-g c = search needs
-
 has-requires : tie.Need-has-requires
 has-requires c κs = omega (arith, c .if1 .left, c .before .pre)
 
@@ -35,4 +29,4 @@ returns-4 c = level-other _ _ _ false (c .before .before .before .before .if1 .l
 pub group-level-spec : {M : Type 1} → statement M
 group-level-spec =
     tie.close
-    (tie.spec returns sub-g cast-g has-requires returns-2 has-requires-2 returns-3 returns-4)
+    (tie.spec returns (λ c. search needs) (λ c. search needs) has-requires returns-2 has-requires-2 returns-3 returns-4)

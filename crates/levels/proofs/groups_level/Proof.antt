@@ -34,20 +34,8 @@ higher c =
 loop-holds : tie.Need-loop-holds Inv-loop μ-loop
 loop-holds c = (refl, c .before .pre)
 
-word-at-requires : tie.Need-word-at-requires Inv-loop μ-loop
-word-at-requires c κs = search needs
-
 group-level-requires : tie.Need-group-level-requires Inv-loop μ-loop
 group-level-requires c κs = within-first _ _ (c .before .loop-test .taken) (c .word-at .ensures) _ _ (c .before .before .loop .inv .1) .1
-
-sub-t : tie.Need-sub-t Inv-loop μ-loop
-sub-t c = search needs
-
-part-t-start : tie.Need-part-t-start Inv-loop μ-loop
-part-t-start c = search needs
-
-part-t-end : tie.Need-part-t-end Inv-loop μ-loop
-part-t-end c = search needs
 
 loop-less : tie.Need-loop-less Inv-loop μ-loop
 loop-less c = part-shorter (c .before .before .before .before .before .loop .t .now) 2 (omega arith) (c .before .before .before .before .loop-test .taken)
@@ -71,11 +59,11 @@ groups-level-spec =
     Inv-loop
     μ-loop
     loop-holds
-    word-at-requires
+    (λ c κs. search needs)
     group-level-requires
-    sub-t
-    part-t-start
-    part-t-end
+    (λ c. search needs)
+    (λ c. search needs)
+    (λ c. search needs)
     loop-less
     loop-again
     returns)

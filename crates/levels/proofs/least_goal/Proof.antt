@@ -40,23 +40,14 @@ sub-rest c = omega (arith, start c .long)
 part-rest-start : tie.Need-part-rest-start Inv-loop μ-loop
 part-rest-start c = omega (arith, start c .long)
 
-part-rest-end : tie.Need-part-rest-end Inv-loop μ-loop
-part-rest-end c = search needs
-
 loop-holds : tie.Need-loop-holds Inv-loop μ-loop
 loop-holds c = record { left = bookOf (now (c .before .before .before .args .book)) .clauses; walk = start (c .before) .walk; so-far = refl }
 
 front-of-requires : tie.Need-front-of-requires Inv-loop μ-loop
 front-of-requires c κs = tt
 
-enum-told : tie.Need-enum-told Inv-loop μ-loop
-enum-told c = search needs
-
 returns : tie.Need-returns Inv-loop μ-loop
 returns c = seeking-end _ _ _ _ _ _ _ _ (c .before .before .before .loop .inv) (sym (c .before .before .front-of .ensures) ∙ c .enum-told .given .1)
-
-enum-known-groups : tie.Need-enum-known-groups Inv-loop μ-loop
-enum-known-groups c = search needs
 
 sub-last : tie.Need-sub-last Inv-loop μ-loop
 sub-last c = omega (arith, turn (c .before) .before)
@@ -90,9 +81,6 @@ sub-rest-2 c = omega (arith, turn (c .before .before .before .before) .fits)
 part-rest-start-2 : tie.Need-part-rest-start-2 Inv-loop μ-loop
 part-rest-start-2 c = omega (arith, turn (c .before .before .before .before) .fits)
 
-part-rest-end-2 : tie.Need-part-rest-end-2 Inv-loop μ-loop
-part-rest-end-2 c = search needs
-
 loop-less : tie.Need-loop-less Inv-loop μ-loop
 loop-less c =
     let t = turn (c .before .before .before .before .before) in
@@ -109,12 +97,12 @@ least-goal-spec =
     μ-loop
     sub-rest
     part-rest-start
-    part-rest-end
+    (λ c. search needs)
     loop-holds
     front-of-requires
-    enum-told
+    (λ c. search needs)
     returns
-    enum-known-groups
+    (λ c. search needs)
     sub-last
     sub-goal-turn
     part-goal-turn-start
@@ -125,6 +113,6 @@ least-goal-spec =
     goal-turn-requires
     sub-rest-2
     part-rest-start-2
-    part-rest-end-2
+    (λ c. search needs)
     loop-less
     loop-again)

@@ -11,32 +11,8 @@ use Rattle.levels.proofs.turn.Tie as tie
 returns : tie.Need-returns
 returns c = (clause-none _ _ _ _ _ _ (c .if1 .taken), omega arith)
 
-sub-h : tie.Need-sub-h
-sub-h c = search needs
-
-mul-old : tie.Need-mul-old
-mul-old c = search needs
-
-slice-read-old : tie.Need-slice-read-old
-slice-read-old c = search needs
-
-clause-level-requires : tie.Need-clause-level-requires
-clause-level-requires c κs = search needs
-
-mul-levels : tie.Need-mul-levels
-mul-levels c = search needs
-
-slice-write-levels : tie.Need-slice-write-levels
-slice-write-levels c = search needs
-
-sub-result : tie.Need-sub-result
-sub-result c = search needs
-
 cast-result : tie.Need-cast-result
 cast-result c = omega (arith, c .before .before .before .before .slice-known .given (c .before .before .before .before .before .before .before .args .head - 1) .fits)
-
-same-length : tie.Need-same-length
-same-length c = search needs
 
 returns-2 : tie.Need-returns-2
 returns-2 c =
@@ -51,13 +27,13 @@ turn-spec =
     tie.close
     (tie.spec
     returns
-    sub-h
-    mul-old
-    slice-read-old
-    clause-level-requires
-    mul-levels
-    slice-write-levels
-    sub-result
+    (λ c. search needs)
+    (λ c. search needs)
+    (λ c. search needs)
+    (λ c κs. search needs)
+    (λ c. search needs)
+    (λ c. search needs)
+    (λ c. search needs)
     cast-result
-    same-length
+    (λ c. search needs)
     returns-2)

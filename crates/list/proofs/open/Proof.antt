@@ -29,23 +29,8 @@ within c =
     let a = c .before .before .before .before .before .before .before .before .before .before .args in
     omega (arith, c .before .before .before .room .ensures, c .before .before .if1 .left, c .before .fault .ensures, fault-le (c .before .before .before .before .before .variables .given .0 .1 .0) (now (a .records)) (a .count))
 
-check-requires : tie.Need-check-requires
-check-requires c κs = search needs
-
-enum-known-number : tie.Need-enum-known-number
-enum-known-number c = search needs
-
-enum-known-variables : tie.Need-enum-known-variables
-enum-known-variables c = search needs
-
-room-requires : tie.Need-room-requires
-room-requires c κs = search needs
-
 returns : tie.Need-returns
 returns c = let k = accepted (c .before .before .before) in told-no _ _ _ (opens-many _ _ _ (k .is .read) (omega (arith, c .before .room .ensures, c .if1 .taken)))
-
-cast-fault : tie.Need-cast-fault
-cast-fault c = search needs
 
 fault-requires : tie.Need-fault-requires
 fault-requires c κs =
@@ -54,9 +39,6 @@ fault-requires c κs =
 
 slice-aggregate-room : tie.Need-slice-aggregate-room
 slice-aggregate-room c = sym (length-take-le _ _ (within c))
-
-room-requires-2 : tie.Need-room-requires-2
-room-requires-2 c κs = search needs
 
 returns-2 : tie.Need-returns-2
 returns-2 c =
@@ -75,15 +57,15 @@ pub open-spec : {M : Type 1} → statement M
 open-spec =
     tie.close
     (tie.spec
-    check-requires
-    enum-known-number
-    enum-known-variables
-    room-requires
+    (λ c κs. search needs)
+    (λ c. search needs)
+    (λ c. search needs)
+    (λ c κs. search needs)
     returns
-    cast-fault
+    (λ c. search needs)
     fault-requires
     slice-aggregate-room
-    room-requires-2
+    (λ c κs. search needs)
     returns-2
     returns-3
     returns-4)

@@ -25,9 +25,6 @@ seek-requires c κs = let p = c .before .before .before .before .pre in (omega (
 loop-holds : tie.Need-loop-holds Inv-loop μ-loop
 loop-holds c = let p = c .before .before .before .before .before .pre in (going-start _ _ _ _ _ (p .1) (p .4) _ (p .3) (p .5) (c .seek .ensures), refl)
 
-enum-told : tie.Need-enum-told Inv-loop μ-loop
-enum-told c = search needs
-
 same-length : tie.Need-same-length Inv-loop μ-loop
 same-length c = going-long _ _ _ _ _ (c .before .before .before .before .before .before .before .before .pre .1) (c .before .before .before .before .before .before .before .before .pre .4) _ _ _ (c .before .before .loop .inv .0)
 
@@ -37,9 +34,6 @@ same-length-2 c = c .before .before .loop .inv .1
 returns : tie.Need-returns Inv-loop μ-loop
 unfolding soughtIs
 returns c = going-done _ _ _ _ _ (c .before .before .before .before .before .before .before .before .pre .1) (c .before .before .before .before .before .before .before .before .pre .4) _ _ _ (c .before .before .loop .inv .0) (ap soughtIs (c .enum-told .given .1))
-
-enum-known-sought : tie.Need-enum-known-sought Inv-loop μ-loop
-enum-known-sought c = search needs
 
 same-length-3 : tie.Need-same-length-3 Inv-loop μ-loop
 same-length-3 c = going-long _ _ _ _ _ (c .before .before .before .before .before .before .before .before .before .before .pre .1) (c .before .before .before .before .before .before .before .before .before .before .pre .4) _ _ _ (c .before .before .before .before .loop .inv .0)
@@ -67,9 +61,6 @@ add-requires c κs =
       l .inv .1 ∙ p .2,
     )
 
-add-written : tie.Need-add-written Inv-loop μ-loop
-add-written c = search needs
-
 seek-below-requires : tie.Need-seek-below-requires Inv-loop μ-loop
 unfolding soughtIs
 seek-below-requires c κs =
@@ -83,9 +74,6 @@ seek-below-requires c κs =
       going-seed _ _ _ _ _ (p .1) (p .4) _ _ _ (l .inv .0) _ e,
       added-falls _ _ _ _ _ (p .1) (p .4) _ _ _ (l .inv .0) _ e m _ a,
     )
-
-loop-less : tie.Need-loop-less Inv-loop μ-loop
-loop-less c = search needs
 
 loop-again : tie.Need-loop-again Inv-loop μ-loop
 unfolding soughtIs
@@ -105,16 +93,16 @@ rounds-spec =
     μ-loop
     seek-requires
     loop-holds
-    enum-told
+    (λ c. search needs)
     same-length
     same-length-2
     returns
-    enum-known-sought
+    (λ c. search needs)
     same-length-3
     same-length-4
     returns-2
     add-requires
-    add-written
+    (λ c. search needs)
     seek-below-requires
-    loop-less
+    (λ c. search needs)
     loop-again)

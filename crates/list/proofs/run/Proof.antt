@@ -30,23 +30,8 @@ opened c =
 front : (c : tie.After-variables) → c .variables .given .0 .0 ≤ 8192
 front c = let k = opened c in omega (arith, k .1, well-formed _ (k .0 .is) .variables)
 
-open-requires : tie.Need-open-requires
-open-requires c κs = search needs
-
-enum-known-number : tie.Need-enum-known-number
-enum-known-number c = search needs
-
-enum-known-variables : tie.Need-enum-known-variables
-enum-known-variables c = search needs
-
-same-length : tie.Need-same-length
-same-length c = search needs
-
 returns : tie.Need-returns
 returns c = told-no _ _ _ _ _ _ _ (lists-tight _ _ _ (length (now (c .before .before .before .before .before .before .before .before .before .args .work))) (opened (c .before .before) .0 .has) (c .if1 .taken))
-
-cast-v : tie.Need-cast-v
-cast-v c = search needs
 
 limit-requires : tie.Need-limit-requires
 limit-requires c κs = opened (c .before .before .before) .0 .few
@@ -67,20 +52,8 @@ rounds-requires c κs =
     let a = c .before .before .before .before .before .before .before .before .before .before .before .before .before .args in
     (k .0 .is, k .2, length-take-le _ _ (fits-in (c .before .before)) ∙ k .1, l .0, l .1, ap (λ g. fault g (now (a .records)) (a .count)) (k .2) ∙ k .0 .right)
 
-clear-requires : tie.Need-clear-requires
-clear-requires c κs = search needs
-
-same-length-2 : tie.Need-same-length-2
-same-length-2 c = search needs
-
 returns-2 : tie.Need-returns-2
 returns-2 c = told-no _ _ _ _ _ _ _ (lists-no _ _ _ _ _ _ (admit-no _ _ _ (sym (ap admittedIs (c .before .number .given .1)) ∙ c .before .before .before .«open» .ensures)))
-
-same-length-3 : tie.Need-same-length-3
-same-length-3 c = search needs
-
-same-length-4 : tie.Need-same-length-4
-same-length-4 c = search needs
 
 returns-3 : tie.Need-returns-3
 returns-3 c =
@@ -95,19 +68,19 @@ pub run-spec : {M : Type 1} → statement M
 run-spec =
     tie.close
     (tie.spec
-    open-requires
-    enum-known-number
-    enum-known-variables
-    same-length
+    (λ c κs. search needs)
+    (λ c. search needs)
+    (λ c. search needs)
+    (λ c. search needs)
     returns
-    cast-v
+    (λ c. search needs)
     limit-requires
     slice-relend-prefix-rounds
     slice-aggregate-rounds
     rounds-requires
-    clear-requires
-    same-length-2
+    (λ c κs. search needs)
+    (λ c. search needs)
     returns-2
-    same-length-3
-    same-length-4
+    (λ c. search needs)
+    (λ c. search needs)
     returns-3)

@@ -30,17 +30,8 @@ first c = within-first _ _ (c .before .loop-test .taken) (c .word-at .ensures) _
 loop-holds : tie.Need-loop-holds Inv-loop μ-loop
 loop-holds c = (refl, c .before .before .pre)
 
-word-at-requires : tie.Need-word-at-requires Inv-loop μ-loop
-word-at-requires c κs = search needs
-
-cast-i : tie.Need-cast-i Inv-loop μ-loop
-cast-i c = search needs
-
 sub-i : tie.Need-sub-i Inv-loop μ-loop
 sub-i c = omega (arith, first c .0)
-
-mul-if1 : tie.Need-mul-if1 Inv-loop μ-loop
-mul-if1 c = search needs
 
 shared-slice-read-if1 : tie.Need-shared-slice-read-if1 Inv-loop μ-loop
 shared-slice-read-if1 c = omega (arith, first (c .before) .0, first (c .before) .1)
@@ -49,15 +40,6 @@ returns : tie.Need-returns Inv-loop μ-loop
 returns c =
     let w = c .before .before in
     sym (w .before .before .loop .inv .0 ∙ first-is _ _ (w .before .loop-test .taken) (w .word-at .ensures) _ (first w .0) (c .if1 .taken))
-
-sub-t : tie.Need-sub-t Inv-loop μ-loop
-sub-t c = search needs
-
-part-t-start : tie.Need-part-t-start Inv-loop μ-loop
-part-t-start c = search needs
-
-part-t-end : tie.Need-part-t-end Inv-loop μ-loop
-part-t-end c = search needs
 
 loop-less : tie.Need-loop-less Inv-loop μ-loop
 loop-less c = part-shorter (c .before .before .before .before .before .loop .t .now) 2 (omega arith) (c .before .before .before .before .loop-test .taken)
@@ -79,15 +61,15 @@ first-unmarked-spec =
     Inv-loop
     μ-loop
     loop-holds
-    word-at-requires
-    cast-i
+    (λ c κs. search needs)
+    (λ c. search needs)
     sub-i
-    mul-if1
+    (λ c. search needs)
     shared-slice-read-if1
     returns
-    sub-t
-    part-t-start
-    part-t-end
+    (λ c. search needs)
+    (λ c. search needs)
+    (λ c. search needs)
     loop-less
     loop-again
     returns-2)

@@ -24,9 +24,6 @@ abbrev μ-loop : tie.MeasureT-loop
 loop-holds : tie.Need-loop-holds Inv-loop μ-loop
 loop-holds c = (refl, c .before .pre)
 
-word-at-requires : tie.Need-word-at-requires Inv-loop μ-loop
-word-at-requires c κs = search needs
-
 is-chosen-requires : tie.Need-is-chosen-requires Inv-loop μ-loop
 is-chosen-requires c κs = within-first _ _ (c .before .loop-test .taken) (c .word-at .ensures) _ _ (c .before .before .loop .inv .1) .1
 
@@ -34,15 +31,6 @@ returns : tie.Need-returns Inv-loop μ-loop
 returns c =
     let w = c .before .before in
     sym (w .before .before .loop .inv .0 ∙ every-not _ _ (w .before .loop-test .taken) (w .word-at .ensures) (chosen _) (sym (c .before .is-chosen .ensures) ∙ not-true _ (c .if1 .taken)))
-
-sub-t : tie.Need-sub-t Inv-loop μ-loop
-sub-t c = search needs
-
-part-t-start : tie.Need-part-t-start Inv-loop μ-loop
-part-t-start c = search needs
-
-part-t-end : tie.Need-part-t-end Inv-loop μ-loop
-part-t-end c = search needs
 
 loop-less : tie.Need-loop-less Inv-loop μ-loop
 loop-less c = part-shorter (c .before .before .before .before .before .loop .t .now) 2 (omega arith) (c .before .before .before .before .loop-test .taken)
@@ -65,12 +53,12 @@ in-force-spec =
     Inv-loop
     μ-loop
     loop-holds
-    word-at-requires
+    (λ c κs. search needs)
     is-chosen-requires
     returns
-    sub-t
-    part-t-start
-    part-t-end
+    (λ c. search needs)
+    (λ c. search needs)
+    (λ c. search needs)
     loop-less
     loop-again
     returns-2)

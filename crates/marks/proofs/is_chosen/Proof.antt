@@ -10,12 +10,6 @@ use Rattle.marks.proofs.Tests.{is-core, is-group}
 returns : tie.Need-returns
 returns c = is-core _ _ (c .if1 .taken)
 
-sub-g : tie.Need-sub-g
-sub-g c = search needs
-
-cast-g : tie.Need-cast-g
-cast-g c = search needs
-
 has-requires : tie.Need-has-requires
 has-requires c κs = omega (arith, c .if1 .left, c .before .pre)
 
@@ -23,4 +17,4 @@ returns-2 : tie.Need-returns-2
 returns-2 c = c .has .ensures ∙ is-group _ _ (c .before .if1 .left)
 
 pub is-chosen-spec : {M : Type 1} → statement M
-is-chosen-spec = tie.close (tie.spec returns sub-g cast-g has-requires returns-2)
+is-chosen-spec = tie.close (tie.spec returns (λ c. search needs) (λ c. search needs) has-requires returns-2)

@@ -38,9 +38,6 @@ sub-rest c = omega (arith, start c .long)
 part-rest-start : tie.Need-part-rest-start Inv-loop μ-loop
 part-rest-start c = omega (arith, start c .long)
 
-part-rest-end : tie.Need-part-rest-end Inv-loop μ-loop
-part-rest-end c = search needs
-
 loop-holds : tie.Need-loop-holds Inv-loop μ-loop
 loop-holds c =
     let b = start (c .before) in
@@ -49,14 +46,8 @@ loop-holds c =
 front-of-requires : tie.Need-front-of-requires Inv-loop μ-loop
 front-of-requires c κs = tt
 
-enum-told : tie.Need-enum-told Inv-loop μ-loop
-enum-told c = search needs
-
 returns : tie.Need-returns Inv-loop μ-loop
 returns c = seeking-none _ _ _ _ _ _ _ (c .before .before .before .loop .inv) (sym (c .before .before .front-of .ensures) ∙ c .enum-told .given .1)
-
-enum-known-groups : tie.Need-enum-known-groups Inv-loop μ-loop
-enum-known-groups c = search needs
 
 sub-last : tie.Need-sub-last Inv-loop μ-loop
 sub-last c = omega (arith, turn (c .before) .before)
@@ -93,9 +84,6 @@ sub-rest-2 c = omega (arith, turn (c .before .before .before .before .before) .f
 part-rest-start-2 : tie.Need-part-rest-start-2 Inv-loop μ-loop
 part-rest-start-2 c = omega (arith, turn (c .before .before .before .before .before) .fits)
 
-part-rest-end-2 : tie.Need-part-rest-end-2 Inv-loop μ-loop
-part-rest-end-2 c = search needs
-
 add-k : tie.Need-add-k Inv-loop μ-loop
 add-k c = omega (arith, c .before .before .before .before .before .before .before .before .before .loop .inv .most, ap length (turn (c .before .before .before .before .before .before) .is))
 
@@ -115,12 +103,12 @@ lowest-broken-spec =
     μ-loop
     sub-rest
     part-rest-start
-    part-rest-end
+    (λ c. search needs)
     loop-holds
     front-of-requires
-    enum-told
+    (λ c. search needs)
     returns
-    enum-known-groups
+    (λ c. search needs)
     sub-last
     sub-is-broken
     part-is-broken-start
@@ -132,7 +120,7 @@ lowest-broken-spec =
     returns-2
     sub-rest-2
     part-rest-start-2
-    part-rest-end-2
+    (λ c. search needs)
     add-k
     loop-less
     loop-again)

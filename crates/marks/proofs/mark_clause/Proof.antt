@@ -12,41 +12,20 @@ use Rattle.marks.proofs.mark_clause.Tie as tie
 returns : tie.Need-returns
 returns c = (clause-goal _ _ _ _ _ (c .if1 .taken), omega arith)
 
-sub-h : tie.Need-sub-h
-sub-h c = search needs
-
-mul-if2 : tie.Need-mul-if2
-mul-if2 c = search needs
-
 slice-read-if2 : tie.Need-slice-read-if2
 slice-read-if2 c = omega (arith, c .before .before .before .before .before .pre .1, c .before .if1 .left)
 
 returns-2 : tie.Need-returns-2
 returns-2 c = (clause-old _ _ _ _ _ (c .before .before .if1 .left) (c .if2 .taken), omega arith)
 
-in-force-requires : tie.Need-in-force-requires
-in-force-requires c κs = search needs
-
 returns-3 : tie.Need-returns-3
 returns-3 c = (clause-off _ _ _ _ _ (sym (c .before .in-force .ensures) ∙ not-true _ (c .if3 .taken)), omega arith)
-
-first-unmarked-requires : tie.Need-first-unmarked-requires
-first-unmarked-requires c κs = search needs
-
-same-length : tie.Need-same-length
-same-length c = search needs
 
 returns-4 : tie.Need-returns-4
 returns-4 c = (clause-not _ _ _ _ _ (first-some _ _ (λ e. c .if4 .taken (c .before .first-unmarked .ensures ∙ e))), omega arith)
 
-mul-marks : tie.Need-mul-marks
-mul-marks c = search needs
-
 slice-write-marks : tie.Need-slice-write-marks
 slice-write-marks c = omega (arith, c .before .before .before .before .before .before .before .before .before .before .before .pre .1, c .before .before .before .before .before .before .before .if1 .left)
-
-same-length-2 : tie.Need-same-length-2
-same-length-2 c = search needs
 
 returns-5 : tie.Need-returns-5
 returns-5 c =
@@ -60,16 +39,16 @@ mark-clause-spec =
     tie.close
     (tie.spec
     returns
-    sub-h
-    mul-if2
+    (λ c. search needs)
+    (λ c. search needs)
     slice-read-if2
     returns-2
-    in-force-requires
+    (λ c κs. search needs)
     returns-3
-    first-unmarked-requires
-    same-length
+    (λ c κs. search needs)
+    (λ c. search needs)
     returns-4
-    mul-marks
+    (λ c. search needs)
     slice-write-marks
-    same-length-2
+    (λ c. search needs)
     returns-5)

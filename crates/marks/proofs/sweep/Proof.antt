@@ -39,26 +39,17 @@ sub-rest c = omega (arith, start c .long)
 part-rest-start : tie.Need-part-rest-start Inv-loop μ-loop
 part-rest-start c = omega (arith, start c .long)
 
-part-rest-end : tie.Need-part-rest-end Inv-loop μ-loop
-part-rest-end c = search needs
-
 loop-holds : tie.Need-loop-holds Inv-loop μ-loop
 loop-holds c = record { left = bookOf (now (c .before .before .before .args .book)) .clauses; walk = start (c .before) .walk; so-far = refl; long = refl; count = omega arith }
 
 front-of-requires : tie.Need-front-of-requires Inv-loop μ-loop
 front-of-requires c κs = tt
 
-enum-told : tie.Need-enum-told Inv-loop μ-loop
-enum-told c = search needs
-
 same-length : tie.Need-same-length Inv-loop μ-loop
 same-length c = c .before .before .before .loop .inv .long
 
 returns : tie.Need-returns Inv-loop μ-loop
 returns c = sweeping-end _ _ _ _ _ _ _ _ (c .before .before .before .loop .inv) (sym (c .before .before .front-of .ensures) ∙ c .enum-told .given .1)
-
-enum-known-groups : tie.Need-enum-known-groups Inv-loop μ-loop
-enum-known-groups c = search needs
 
 sub-last : tie.Need-sub-last Inv-loop μ-loop
 sub-last c = omega (arith, turn (c .before) .before)
@@ -96,9 +87,6 @@ sub-rest-2 c = omega (arith, turn (c .before .before .before .before .before .be
 part-rest-start-2 : tie.Need-part-rest-start-2 Inv-loop μ-loop
 part-rest-start-2 c = omega (arith, turn (c .before .before .before .before .before .before .before) .fits)
 
-part-rest-end-2 : tie.Need-part-rest-end-2 Inv-loop μ-loop
-part-rest-end-2 c = search needs
-
 loop-less : tie.Need-loop-less Inv-loop μ-loop
 loop-less c =
     let t = turn (c .before .before .before .before .before .before .before .before) in
@@ -115,13 +103,13 @@ sweep-spec =
     μ-loop
     sub-rest
     part-rest-start
-    part-rest-end
+    (λ c. search needs)
     loop-holds
     front-of-requires
-    enum-told
+    (λ c. search needs)
     same-length
     returns
-    enum-known-groups
+    (λ c. search needs)
     sub-last
     sub-mark-clause
     part-mark-clause-start
@@ -133,6 +121,6 @@ sweep-spec =
     add-n
     sub-rest-2
     part-rest-start-2
-    part-rest-end-2
+    (λ c. search needs)
     loop-less
     loop-again)

@@ -22,14 +22,8 @@ done : (c : tie.After-run-queue)
     Kept (now (at .book)) (at .choice) (now (at .work)) (c .run-queue .last .1 .1 .1 .1 .0)
 done c = kept-on _ _ _ _ _ (kept-on _ _ _ _ _ (begun (c .before .before .before .before .before .before .before .before)) (c .before .before .before .before .visit-all .ensures)) (c .run-queue .ensures)
 
-lay-requires : tie.Need-lay-requires
-lay-requires c κs = search needs
-
 visit-all-requires : tie.Need-visit-all-requires
 visit-all-requires c κs = let p = c .before .before .before .before .before .before .before .pre in (p .0, p .1, omega (arith, c .before .before .before .lay .ensures .0), begun (c .before .before .before) .ready)
-
-run-queue-requires : tie.Need-run-queue-requires
-run-queue-requires c κs = search needs
 
 slice-relend-prefix-settle : tie.Need-slice-relend-prefix-settle
 slice-relend-prefix-settle c = let p = c .before .before .before .before .before .before .before .before .before .before .before .before .before .before .pre in omega (arith, front-small _ (c .before .before .before .before .before .before .before .before .before .before .before .before .before .before .args .choice) _ (p .0) (p .1), done (c .before .before) .ready .room)
@@ -40,9 +34,6 @@ slice-aggregate-settle c = let p = c .before .before .before .before .before .be
 settle-requires : tie.Need-settle-requires
 settle-requires c κs = let p = c .before .before .before .before .before .before .before .before .before .before .before .before .before .before .before .pre in (p .0, front-marks _ _ _ (p .0) (p .1) _ (done (c .before .before .before) .ready))
 
-same-length : tie.Need-same-length
-same-length c = search needs
-
 returns : tie.Need-returns
 returns c = let p = c .before .before .before .before .before .before .before .before .before .before .before .before .before .before .before .before .before .before .pre in forcing _ _ _ (p .0) (p .1) _ _ _ (done (c .before .before .before .before .before .before)) (c .before .before .settle .ensures)
 
@@ -50,11 +41,11 @@ pub force-spec : {M : Type 1} → statement M
 force-spec =
     tie.close
     (tie.spec
-    lay-requires
+    (λ c κs. search needs)
     visit-all-requires
-    run-queue-requires
+    (λ c κs. search needs)
     slice-relend-prefix-settle
     slice-aggregate-settle
     settle-requires
-    same-length
+    (λ c. search needs)
     returns)

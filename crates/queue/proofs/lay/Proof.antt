@@ -36,32 +36,17 @@ sub-rest c = omega (arith, start c .long)
 part-rest-start : tie.Need-part-rest-start Inv-loop μ-loop
 part-rest-start c = omega (arith, start c .long)
 
-part-rest-end : tie.Need-part-rest-end Inv-loop μ-loop
-part-rest-end c = search needs
-
 loop-holds : tie.Need-loop-holds Inv-loop μ-loop
 loop-holds c = laying-start _ _ (c .before .before .before .pre .0) (c .before .before .before .pre .1)
 
 front-of-requires : tie.Need-front-of-requires Inv-loop μ-loop
 front-of-requires c κs = tt
 
-enum-told : tie.Need-enum-told Inv-loop μ-loop
-enum-told c = search needs
-
 same-length : tie.Need-same-length Inv-loop μ-loop
 same-length c = c .before .before .before .loop .inv .long
 
 returns : tie.Need-returns Inv-loop μ-loop
 returns c = laying-end _ _ _ _ _ _ (c .before .before .before .loop .inv) (sym (c .before .before .front-of .ensures) ∙ c .enum-told .given .1)
-
-enum-known-size : tie.Need-enum-known-size Inv-loop μ-loop
-enum-known-size c = search needs
-
-cast-entry : tie.Need-cast-entry Inv-loop μ-loop
-cast-entry c = search needs
-
-add-entry : tie.Need-add-entry Inv-loop μ-loop
-add-entry c = search needs
 
 cast-work : tie.Need-cast-work Inv-loop μ-loop
 cast-work c = omega (arith, c .before .before .before .before .loop .inv .inside, c .before .before .before .before .loop .inv .short)
@@ -84,9 +69,6 @@ sub-rest-2 c = turn (c .before) .fits
 part-rest-start-2 : tie.Need-part-rest-start-2 Inv-loop μ-loop
 part-rest-start-2 c = omega (arith, turn (c .before) .fits)
 
-part-rest-end-2 : tie.Need-part-rest-end-2 Inv-loop μ-loop
-part-rest-end-2 c = search needs
-
 loop-less : tie.Need-loop-less Inv-loop μ-loop
 loop-less c =
     let t = turn (c .before .before) in
@@ -103,15 +85,15 @@ lay-spec =
     μ-loop
     sub-rest
     part-rest-start
-    part-rest-end
+    (λ c. search needs)
     loop-holds
     front-of-requires
-    enum-told
+    (λ c. search needs)
     same-length
     returns
-    enum-known-size
-    cast-entry
-    add-entry
+    (λ c. search needs)
+    (λ c. search needs)
+    (λ c. search needs)
     cast-work
     mul-work
     slice-write-work
@@ -119,6 +101,6 @@ lay-spec =
     add-count
     sub-rest-2
     part-rest-start-2
-    part-rest-end-2
+    (λ c. search needs)
     loop-less
     loop-again)

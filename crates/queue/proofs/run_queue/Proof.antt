@@ -26,15 +26,6 @@ same-length c = c .before .before .before .loop .inv .long
 returns : tie.Need-returns Inv-loop μ-loop
 returns c = c .before .before .before .loop .inv
 
-cast-front : tie.Need-cast-front Inv-loop μ-loop
-cast-front c = search needs
-
-add-front : tie.Need-add-front Inv-loop μ-loop
-add-front c = search needs
-
-mul-variable : tie.Need-mul-variable Inv-loop μ-loop
-mul-variable c = search needs
-
 slice-read-variable : tie.Need-slice-read-variable Inv-loop μ-loop
 slice-read-variable c = omega (arith, c .before .before .before .before .loop .inv .ready .room, c .before .before .before .loop-test .taken)
 
@@ -66,9 +57,9 @@ run-queue-spec =
     slice-read-if1
     same-length
     returns
-    cast-front
-    add-front
-    mul-variable
+    (λ c. search needs)
+    (λ c. search needs)
+    (λ c. search needs)
     slice-read-variable
     visit-waiting-requires
     add-taken

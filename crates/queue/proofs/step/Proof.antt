@@ -16,29 +16,14 @@ use Rattle.queue.proofs.step.Tie as tie
 returns : tie.Need-returns
 returns c = stepped-same _ _ _ _ _ (c .before .before .before .before .pre .4) (clause-goal _ _ _ _ _ (c .if1 .taken)) (aside-none _)
 
-sub-mark : tie.Need-sub-mark
-sub-mark c = search needs
-
-mul-if2 : tie.Need-mul-if2
-mul-if2 c = search needs
-
-slice-read-if2 : tie.Need-slice-read-if2
-slice-read-if2 c = search needs
-
 returns-2 : tie.Need-returns-2
 returns-2 c =
     let p = c .before .before .before .before .before .before .pre in
     let h = c .before .before .if1 .left in
     stepped-same _ _ _ _ _ (p .4) (clause-old _ _ _ _ _ h (front-old _ _ _ h (p .2) (c .if2 .taken))) (aside-none _)
 
-in-force-requires : tie.Need-in-force-requires
-in-force-requires c κs = search needs
-
 returns-3 : tie.Need-returns-3
 returns-3 c = stepped-same _ _ _ _ _ (c .before .before .before .before .before .before .before .before .pre .4) (clause-off _ _ _ _ _ (sym (c .before .in-force .ensures) ∙ not-true _ (c .if3 .taken))) (aside-none _)
-
-slice-reshare-prefix-first-unmarked : tie.Need-slice-reshare-prefix-first-unmarked
-slice-reshare-prefix-first-unmarked c = search needs
 
 slice-aggregate-first-unmarked : tie.Need-slice-aggregate-first-unmarked
 slice-aggregate-first-unmarked c = let p = c .before .before .before .before .before .before .before .before .before .pre in sym (length-take-le _ _ (omega (arith, p .4, p .5)))
@@ -52,20 +37,8 @@ wait-requires c κs =
     let l = first-within _ _ _ (c .before .before .first-unmarked .ensures) (p .3) in
     (p .0, omega (arith, c .before .if4 .taken), omega (arith, l, p .4), p .5)
 
-same-length : tie.Need-same-length
-same-length c = search needs
-
 returns-4 : tie.Need-returns-4
 returns-4 c = stepped-same _ _ _ _ _ (c .before .before .before .before .before .before .before .before .before .before .before .before .before .before .before .pre .4) (clause-not _ _ _ _ _ (first-some _ _ (λ e. c .before .before .before .before .if4 .taken (c .before .before .before .before .before .first-unmarked .ensures ∙ e)))) (c .before .before .wait .ensures)
-
-mul-work : tie.Need-mul-work
-mul-work c = search needs
-
-slice-write-work : tie.Need-slice-write-work
-slice-write-work c = search needs
-
-join-requires : tie.Need-join-requires
-join-requires c κs = search needs
 
 same-length-2 : tie.Need-same-length-2
 same-length-2 c = c .before .before .join .ensures .long ∙ simp length-set
@@ -83,20 +56,20 @@ step-spec =
     tie.close
     (tie.spec
     returns
-    sub-mark
-    mul-if2
-    slice-read-if2
+    (λ c. search needs)
+    (λ c. search needs)
+    (λ c. search needs)
     returns-2
-    in-force-requires
+    (λ c κs. search needs)
     returns-3
-    slice-reshare-prefix-first-unmarked
+    (λ c. search needs)
     slice-aggregate-first-unmarked
     first-unmarked-requires
     wait-requires
-    same-length
+    (λ c. search needs)
     returns-4
-    mul-work
-    slice-write-work
-    join-requires
+    (λ c. search needs)
+    (λ c. search needs)
+    (λ c κs. search needs)
     same-length-2
     returns-5)

@@ -28,12 +28,6 @@ turn : (c : tie.After-groups)
     Turn (bookOf s .variables) (bookOf s .groups) (take (length s - k) (drop k s)) (drop (at .clause) (bookOf s .clauses)) (d .0) (d .1 .0) (d .1 .1 .0) (d .1 .1 .1 .0)
 turn c = walk-on _ _ _ _ _ _ _ _ (place-walk _ (c .before .before .before .before .before .before .before .pre .0) _ (c .before .before .before .before .before .before .before .args .clause) (place (c .before .before .before .before .before .before .before))) (sym (c .before .before .front-of .ensures) ∙ c .groups .given .1)
 
-add-entry : tie.Need-add-entry
-add-entry c = search needs
-
-mul-place : tie.Need-mul-place
-mul-place c = search needs
-
 slice-read-place : tie.Need-slice-read-place
 slice-read-place c = let p = c .before .before .before .pre in omega (arith, p .2, p .3 .room, well-formed _ (p .0) .clauses)
 
@@ -45,18 +39,6 @@ sub-rest c = place-inside _ _ (c .before .before .before .args .clause) (place (
 
 part-rest-start : tie.Need-part-rest-start
 part-rest-start c = place-inside _ _ (c .before .before .before .args .clause) (place (c .before .before .before))
-
-part-rest-end : tie.Need-part-rest-end
-part-rest-end c = search needs
-
-front-of-requires : tie.Need-front-of-requires
-front-of-requires c κs = search needs
-
-enum-told : tie.Need-enum-told
-enum-told c = search needs
-
-enum-known-groups : tie.Need-enum-known-groups
-enum-known-groups c = search needs
 
 sub-last : tie.Need-sub-last
 sub-last c = omega (arith, turn (c .before) .before)
@@ -101,16 +83,16 @@ pub visit-spec : {M : Type 1} → statement M
 visit-spec =
     tie.close
     (tie.spec
-    add-entry
-    mul-place
+    (λ c. search needs)
+    (λ c. search needs)
     slice-read-place
     cast-place
     sub-rest
     part-rest-start
-    part-rest-end
-    front-of-requires
-    enum-told
-    enum-known-groups
+    (λ c. search needs)
+    (λ c κs. search needs)
+    (λ c. search needs)
+    (λ c. search needs)
     sub-last
     sub-step
     part-step-start

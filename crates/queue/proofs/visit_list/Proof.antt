@@ -29,15 +29,6 @@ same-length-2 c = c .before .before .before .loop .inv .long
 returns-2 : tie.Need-returns-2 Inv-loop μ-loop
 returns-2 c = c .before .before .before .loop .inv
 
-sub-clause : tie.Need-sub-clause Inv-loop μ-loop
-sub-clause c = search needs
-
-cast-link : tie.Need-cast-link Inv-loop μ-loop
-cast-link c = search needs
-
-add-link : tie.Need-add-link Inv-loop μ-loop
-add-link c = search needs
-
 mul-next : tie.Need-mul-next Inv-loop μ-loop
 mul-next c = let p = c .before .before .before .before .before .before .pre in omega (arith, p .2, well-formed _ (p .0) .clauses, c .if2 .left)
 
@@ -73,9 +64,9 @@ visit-list-spec =
     returns
     same-length-2
     returns-2
-    sub-clause
-    cast-link
-    add-link
+    (λ c. search needs)
+    (λ c. search needs)
+    (λ c. search needs)
     mul-next
     slice-read-next
     visit-requires

@@ -17,30 +17,6 @@ taken : (c : tie.Else2)
     Kept (now (at .book)) (at .choice) (now (at .work)) (set (now (at .work)) (5120 + (at .variable - 1)) 0)
 taken c = let p = c .before .before .before .before .pre in kept-set _ _ _ _ _ (p .0) (omega arith) (omega (arith, c .if2 .left)) (p .3)
 
-returns : tie.Need-returns
-returns c = search needs
-
-returns-2 : tie.Need-returns-2
-returns-2 c = search needs
-
-sub-first : tie.Need-sub-first
-sub-first c = search needs
-
-add-first : tie.Need-add-first
-add-first c = search needs
-
-mul-waiting : tie.Need-mul-waiting
-mul-waiting c = search needs
-
-slice-read-waiting : tie.Need-slice-read-waiting
-slice-read-waiting c = search needs
-
-mul-work : tie.Need-mul-work
-mul-work c = search needs
-
-slice-write-work : tie.Need-slice-write-work
-slice-write-work c = search needs
-
 visit-list-requires : tie.Need-visit-list-requires
 visit-list-requires c κs = let p = c .before .before .before .before .before .before .pre in (p .0, p .1, p .2, taken (c .before .before) .ready)
 
@@ -54,14 +30,14 @@ pub visit-waiting-spec : {M : Type 1} → statement M
 visit-waiting-spec =
     tie.close
     (tie.spec
-    returns
-    returns-2
-    sub-first
-    add-first
-    mul-waiting
-    slice-read-waiting
-    mul-work
-    slice-write-work
+    (λ c. search needs)
+    (λ c. search needs)
+    (λ c. search needs)
+    (λ c. search needs)
+    (λ c. search needs)
+    (λ c. search needs)
+    (λ c. search needs)
+    (λ c. search needs)
     visit-list-requires
     same-length
     returns-3)

@@ -40,9 +40,6 @@ sub-rest c = omega (arith, start c .long)
 part-rest-start : tie.Need-part-rest-start Inv-loop μ-loop
 part-rest-start c = omega (arith, start c .long)
 
-part-rest-end : tie.Need-part-rest-end Inv-loop μ-loop
-part-rest-end c = search needs
-
 loop-holds : tie.Need-loop-holds Inv-loop μ-loop
 loop-holds c =
     let b = start (c .before) in
@@ -51,15 +48,9 @@ loop-holds c =
 front-of-requires : tie.Need-front-of-requires Inv-loop μ-loop
 front-of-requires c κs = tt
 
-enum-told : tie.Need-enum-told Inv-loop μ-loop
-enum-told c = search needs
-
 returns : tie.Need-returns Inv-loop μ-loop
 unfolding plainOf
 returns c = omega (arith, adding-end _ _ _ _ _ (c .before .before .before .loop .inv) (sym (c .before .before .front-of .ensures) ∙ c .enum-told .given .1))
-
-enum-known-groups : tie.Need-enum-known-groups Inv-loop μ-loop
-enum-known-groups c = search needs
 
 clause-length-requires : tie.Need-clause-length-requires Inv-loop μ-loop
 clause-length-requires c κs =
@@ -77,9 +68,6 @@ sub-rest-2 c = omega (arith, turn (c .before .before) .fits)
 part-rest-start-2 : tie.Need-part-rest-start-2 Inv-loop μ-loop
 part-rest-start-2 c = omega (arith, turn (c .before .before) .fits)
 
-part-rest-end-2 : tie.Need-part-rest-end-2 Inv-loop μ-loop
-part-rest-end-2 c = search needs
-
 loop-less : tie.Need-loop-less Inv-loop μ-loop
 loop-less c =
     let t = turn (c .before .before .before) in
@@ -96,16 +84,16 @@ plain-length-spec =
     μ-loop
     sub-rest
     part-rest-start
-    part-rest-end
+    (λ c. search needs)
     loop-holds
     front-of-requires
-    enum-told
+    (λ c. search needs)
     returns
-    enum-known-groups
+    (λ c. search needs)
     clause-length-requires
     add-n
     sub-rest-2
     part-rest-start-2
-    part-rest-end-2
+    (λ c. search needs)
     loop-less
     loop-again)

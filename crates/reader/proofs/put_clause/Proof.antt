@@ -50,9 +50,6 @@ put-plus-requires c κs = third (c .before .before)
 add-result : tie.Need-add-result
 add-result c = omega (arith, third (c .before .before .before .before), long (c .before .before .before .before), c .before .before .before .before .before .before .before .before .before .before .before .before .before .before .good)
 
-same-length : tie.Need-same-length
-same-length c = search needs
-
 returns : tie.Need-returns
 returns c = clause-wrote _ _ _ _ _ _ _ _ _ _ _ _ (c .before .before .before .before .before .before .before .before .before .before .put-numbers .ensures) (c .before .before .before .before .before .before .before .put-numbers2 .ensures) (c .before .before .before .before .put-head .ensures) (c .before .put-plus .ensures)
 
@@ -65,5 +62,5 @@ put-clause-spec =
     put-head-requires
     put-plus-requires
     add-result
-    same-length
+    (λ c. search needs)
     returns)

@@ -18,11 +18,8 @@ put-plus-requires c κs = omega (arith, ap length (head-some _ (c .before .if1 .
 add-result : tie.Need-add-result
 add-result c = omega (arith, ap length (head-some _ (c .before .before .before .if1 .left)), c .before .before .before .before .good)
 
-same-length : tie.Need-same-length
-same-length c = search needs
-
 returns-2 : tie.Need-returns-2
 returns-2 c = rw (head-some _ (c .before .before .before .if1 .left), c .before .put-plus .ensures) (wrote-one _ _ _)
 
 pub put-head-spec : {M : Type 1} → statement M
-put-head-spec = tie.close (tie.spec returns put-plus-requires add-result same-length returns-2)
+put-head-spec = tie.close (tie.spec returns put-plus-requires add-result (λ c. search needs) returns-2)

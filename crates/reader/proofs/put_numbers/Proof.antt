@@ -38,23 +38,11 @@ room c =
 loop-holds : tie.Need-loop-holds Inv-loop μ-loop
 loop-holds c = writing-start _ _ _
 
-word-at-requires : tie.Need-word-at-requires Inv-loop μ-loop
-word-at-requires c κs = search needs
-
 put-signed-requires : tie.Need-put-signed-requires Inv-loop μ-loop
 put-signed-requires c κs = room (c .before)
 
 add-i : tie.Need-add-i Inv-loop μ-loop
 add-i c = omega (arith, room (c .before .before .before), writing-length _ _ _ _ _ _ (c .before .before .before .before .before .loop .inv), c .before .before .before .before .before .before .before .good)
-
-sub-t : tie.Need-sub-t Inv-loop μ-loop
-sub-t c = search needs
-
-part-t-start : tie.Need-part-t-start Inv-loop μ-loop
-part-t-start c = search needs
-
-part-t-end : tie.Need-part-t-end Inv-loop μ-loop
-part-t-end c = search needs
 
 loop-less : tie.Need-loop-less Inv-loop μ-loop
 loop-less c = part-shorter (c .before .before .before .before .before .before .loop .t .now) 2 (omega arith) (c .before .before .before .before .before .loop-test .taken)
@@ -79,12 +67,12 @@ put-numbers-spec =
     Inv-loop
     μ-loop
     loop-holds
-    word-at-requires
+    (λ c κs. search needs)
     put-signed-requires
     add-i
-    sub-t
-    part-t-start
-    part-t-end
+    (λ c. search needs)
+    (λ c. search needs)
+    (λ c. search needs)
     loop-less
     loop-again
     same-length

@@ -23,15 +23,6 @@ book-is c = check-book _ _ _ _ (bytes-at (now (c .before .before .before .before
 long : (c : tie.Else1) → 2 + length (plainClauses (bookOf (now (c .before .before .before .before .before .before .before .args .book)) .clauses)) ≤ length (now (c .before .before .before .before .before .before .before .args .out))
 long c = omega (arith, c .if1 .left, c .before .plain-length .ensures, plain-length (bookOf (now (c .before .before .before .before .before .before .before .args .book))))
 
-check-requires : tie.Need-check-requires
-check-requires c κs = search needs
-
-enum-known-number : tie.Need-enum-known-number
-enum-known-number c = search needs
-
-enum-known-variables : tie.Need-enum-known-variables
-enum-known-variables c = search needs
-
 plain-length-requires : tie.Need-plain-length-requires
 plain-length-requires c κs = book-is (c .before) .is
 
@@ -63,9 +54,9 @@ pub read-spec : {M : Type 1} → statement M
 read-spec =
     tie.close
     (tie.spec
-    check-requires
-    enum-known-number
-    enum-known-variables
+    (λ c κs. search needs)
+    (λ c. search needs)
+    (λ c. search needs)
     plain-length-requires
     returns
     put-plus-requires

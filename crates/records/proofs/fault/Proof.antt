@@ -24,9 +24,6 @@ mul-words c = omega (arith, c .before .pre)
 loop-holds : tie.Need-loop-holds Inv-loop μ-loop
 loop-holds c = (omega arith, fault-is _ _ _ ∙ ap (λ (k : ℕ). firstFrom (λ j. faulty (c .before .args .groups) j (getD (now (c .before .args .records)) j 0)) k 0) (let e : 2 * c .before .args .count ≡ 2 * c .before .args .count - 0 = omega arith in e))
 
-mul-is-faulty : tie.Need-mul-is-faulty Inv-loop μ-loop
-mul-is-faulty c = search needs
-
 shared-slice-read-is-faulty : tie.Need-shared-slice-read-is-faulty Inv-loop μ-loop
 shared-slice-read-is-faulty c = omega (arith, c .before .loop-test .taken, c .before .before .before .before .pre .0)
 
@@ -35,9 +32,6 @@ is-faulty-requires c κs = c .before .before .before .before .pre .1
 
 returns : tie.Need-returns Inv-loop μ-loop
 returns c = sym (c .before .before .before .before .loop .inv .1 ∙ first-here _ _ _ (omega (arith, c .before .before .before .loop-test .taken)) (sym (c .before .is-faulty .ensures) ∙ c .if1 .taken))
-
-add-i : tie.Need-add-i Inv-loop μ-loop
-add-i c = search needs
 
 loop-less : tie.Need-loop-less Inv-loop μ-loop
 loop-less c = omega (arith, c .before .before .before .loop-test .taken)
@@ -60,11 +54,11 @@ fault-spec =
     μ-loop
     mul-words
     loop-holds
-    mul-is-faulty
+    (λ c. search needs)
     shared-slice-read-is-faulty
     is-faulty-requires
     returns
-    add-i
+    (λ c. search needs)
     loop-less
     loop-again
     returns-2)

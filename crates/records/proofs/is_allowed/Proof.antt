@@ -28,16 +28,10 @@ kind-at-requires c κs = omega (arith, c .loop-test .taken, c .before .before .b
 set-at-requires : tie.Need-set-at-requires Inv-loop μ-loop
 set-at-requires c κs = omega (arith, c .before .loop-test .taken, c .before .before .before .before .pre)
 
-is-open-requires : tie.Need-is-open-requires Inv-loop μ-loop
-is-open-requires c κs = search needs
-
 returns : tie.Need-returns Inv-loop μ-loop
 returns c =
     sym (allowed-not (now (c .before .before .before .before .before .before .before .args .records)) (c .before .before .before .before .before .before .before .args .count) (c .before .before .before .before .before .before .before .args .choice) (c .before .before .before .before .before .loop .i) (c .before .before .before .before .loop-test .taken)
     (ap₂ (λ (k s : ℕ). allows (recordFrom k s) (c .before .before .before .before .before .before .before .args .choice)) (sym (c .before .before .before .kind-at .ensures)) (sym (c .before .before .set-at .ensures)) ∙ sym (c .before .is-open .ensures) ∙ not-true _ (c .if1 .taken)))
-
-add-i : tie.Need-add-i Inv-loop μ-loop
-add-i c = search needs
 
 loop-less : tie.Need-loop-less Inv-loop μ-loop
 loop-less c = omega (arith, c .before .before .before .before .loop-test .taken)
@@ -61,9 +55,9 @@ is-allowed-spec =
     loop-holds
     kind-at-requires
     set-at-requires
-    is-open-requires
+    (λ c κs. search needs)
     returns
-    add-i
+    (λ c. search needs)
     loop-less
     loop-again
     returns-2)

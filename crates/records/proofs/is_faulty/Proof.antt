@@ -15,11 +15,8 @@ returns c = sym (faulty-kind (c .before .before .args .groups) _ _ (c .before .i
 returns-2 : tie.Need-returns-2
 returns-2 c = ap not (eq-eqb _ _ (c .if2 .left)) ∙ sym (faulty-kind (c .before .before .args .groups) _ (c .before .before .args .word) (c .before .if1 .taken) ∙ ap (λ (b : Bool). not b && not (eqb (c .before .before .args .word) 2)) (eq-eqb _ _ (c .if2 .left)))
 
-exceeds-requires : tie.Need-exceeds-requires
-exceeds-requires c κs = search needs
-
 returns-3 : tie.Need-returns-3
 returns-3 c = c .exceeds .ensures ∙ sym (faulty-set _ _ _ (c .before .if1 .left))
 
 pub is-faulty-spec : {M : Type 1} → statement M
-is-faulty-spec = tie.close (tie.spec returns returns-2 exceeds-requires returns-3)
+is-faulty-spec = tie.close (tie.spec returns returns-2 (λ c κs. search needs) returns-3)

@@ -10,26 +10,14 @@ use borrow.Author.Needs.{needs}
 use Rattle.report.proofs.put_kind.Statement.{statement}
 use Rattle.report.proofs.put_kind.Tie as tie
 
-slice-aggregate-put-text : tie.Need-slice-aggregate-put-text
-slice-aggregate-put-text c = search needs
-
 put-text-requires : tie.Need-put-text-requires
 put-text-requires c κs = omega (arith, c .before .before .before .before .pre, ap length (kind-explains (c .before .before .before .before .args .kind) (c .before .before .if1 .taken)))
-
-same-length : tie.Need-same-length
-same-length c = search needs
 
 returns : tie.Need-returns
 returns c = wrote-as _ _ _ _ _ _ (sym (kind-explains _ (c .before .before .before .before .before .if1 .taken))) (c .before .before .put-text .ensures)
 
-slice-aggregate-put-text-2 : tie.Need-slice-aggregate-put-text-2
-slice-aggregate-put-text-2 c = search needs
-
 put-text-requires-2 : tie.Need-put-text-requires-2
 put-text-requires-2 c κs = omega (arith, c .before .before .before .before .pre, ap length (kind-repairs (c .before .before .before .before .args .kind) (c .before .before .if1 .left)))
-
-same-length-2 : tie.Need-same-length-2
-same-length-2 c = search needs
 
 returns-2 : tie.Need-returns-2
 returns-2 c = wrote-as _ _ _ _ _ _ (sym (kind-repairs _ (c .before .before .before .before .before .if1 .left))) (c .before .before .put-text2 .ensures)
@@ -38,11 +26,11 @@ pub put-kind-spec : {M : Type 1} → statement M
 put-kind-spec =
     tie.close
     (tie.spec
-    slice-aggregate-put-text
+    (λ c. search needs)
     put-text-requires
-    same-length
+    (λ c. search needs)
     returns
-    slice-aggregate-put-text-2
+    (λ c. search needs)
     put-text-requires-2
-    same-length-2
+    (λ c. search needs)
     returns-2)

@@ -11,9 +11,6 @@ use borrow.Author.Needs.{needs}
 use Rattle.report.proofs.put_line.Statement.{statement}
 use Rattle.report.proofs.put_line.Tie as tie
 
-put-text-requires : tie.Need-put-text-requires
-put-text-requires c κs = search needs
-
 put-after-requires : tie.Need-put-after-requires
 put-after-requires c κs =
     let a = c .before .before .before .before .before .before .before in
@@ -27,12 +24,9 @@ put-byte-requires c κs =
     let v = c .before .before .before .put-after .ensures in
     omega (arith, a .pre, u .place, wrote-length _ _ _ _ _ u, v .place, wrote-length _ _ _ _ _ v, number-length 19 (a .args .n) (omega (arith, a .fits .n)))
 
-same-length : tie.Need-same-length
-same-length c = search needs
-
 returns : tie.Need-returns
 returns c = line-wrote _ _ _ _ _ _ _ _ _ _ (c .before .before .before .before .before .before .before .before .before .before .put-text .ensures) (c .before .before .before .before .before .before .put-after .ensures) (c .before .before .put-byte .ensures)
 
 pub put-line-spec : {M : Type 1} → statement M
 put-line-spec =
-    tie.close (tie.spec put-text-requires put-after-requires put-byte-requires same-length returns)
+    tie.close (tie.spec (λ c κs. search needs) put-after-requires put-byte-requires (λ c. search needs) returns)

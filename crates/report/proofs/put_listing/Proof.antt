@@ -9,9 +9,6 @@ use borrow.Author.Needs.{needs}
 use Rattle.report.proofs.put_listing.Statement.{statement}
 use Rattle.report.proofs.put_listing.Tie as tie
 
-put-header-requires : tie.Need-put-header-requires
-put-header-requires c κs = search needs
-
 put-records-requires : tie.Need-put-records-requires
 put-records-requires c κs =
     let a = c .before .before .before .before .before .before .before in
@@ -25,13 +22,10 @@ put-last-requires c κs =
     let v = c .before .before .before .put-records .ensures in
     omega (arith, a .pre .1, u .place, wrote-length _ _ _ _ _ u, v .1, wrote-length _ _ _ _ _ (v .0), line-length groupsWord (a .args .groups), number-length 4 (a .args .groups) (omega (arith, a .fits .groups)))
 
-same-length : tie.Need-same-length
-same-length c = search needs
-
 returns : tie.Need-returns
 returns c = listing-wrote _ _ _ _ _ _ _ _ _ _ _ _ (c .before .before .before .before .before .before .before .before .before .before .put-header .ensures) (c .before .before .before .before .before .before .put-records .ensures .0) (c .before .before .put-last .ensures)
 
 pub put-listing-spec : {M : Type 1} → statement M
 put-listing-spec =
     tie.close
-    (tie.spec put-header-requires put-records-requires put-last-requires same-length returns)
+    (tie.spec (λ c κs. search needs) put-records-requires put-last-requires (λ c. search needs) returns)

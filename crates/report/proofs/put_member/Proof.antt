@@ -14,9 +14,6 @@ put-after-requires c κs =
     let a = c .before .before .before in
     omega (arith, a .pre, ap length (member-in (a .args .group) (a .args .rest) (c .before .if1 .taken)))
 
-same-length : tie.Need-same-length
-same-length c = search needs
-
 returns : tie.Need-returns
 returns c = wrote-as _ _ _ _ _ _ (sym (member-in _ _ (c .before .before .before .before .if1 .taken))) (c .before .before .put-after .ensures)
 
@@ -24,4 +21,4 @@ returns-2 : tie.Need-returns-2
 returns-2 c = wrote-as _ _ _ _ _ _ (sym (member-out _ _ (c .if1 .left))) (wrote-none _ _)
 
 pub put-member-spec : {M : Type 1} → statement M
-put-member-spec = tie.close (tie.spec put-after-requires same-length returns returns-2)
+put-member-spec = tie.close (tie.spec put-after-requires (λ c. search needs) returns returns-2)

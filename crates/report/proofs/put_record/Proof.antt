@@ -26,9 +26,6 @@ put-byte-requires c κs =
     let v = c .before .before .before .put-set .ensures in
     omega (arith, a .pre, u .place, wrote-length _ _ _ _ _ u, v .place, wrote-length _ _ _ _ _ v, kind-length (a .args .kind), set-length (a .args .set) (omega (arith, a .fits .set)))
 
-same-length : tie.Need-same-length
-same-length c = search needs
-
 returns : tie.Need-returns
 returns c =
     let a = c .before .before .before .before .before .before .before .before .before .before .before .before .before in
@@ -39,4 +36,4 @@ returns c =
 
 pub put-record-spec : {M : Type 1} → statement M
 put-record-spec =
-    tie.close (tie.spec put-kind-requires put-set-requires put-byte-requires same-length returns)
+    tie.close (tie.spec put-kind-requires put-set-requires put-byte-requires (λ c. search needs) returns)

@@ -35,9 +35,6 @@ put-record-requires c κs =
     let l = c .before .before .before .before .loop in
     omega (arith, l .inv .2, c .before .before .before .loop-test .taken, c .before .before .before .before .before .before .before .pre .1, wrote-length _ _ _ _ _ (l .inv .0))
 
-add-k : tie.Need-add-k Inv-loop μ-loop
-add-k c = search needs
-
 loop-less : tie.Need-loop-less Inv-loop μ-loop
 loop-less c = omega (arith, c .before .before .before .before .before .before .loop-test .taken)
 
@@ -65,7 +62,7 @@ put-records-spec =
     kind-at-requires
     set-at-requires
     put-record-requires
-    add-k
+    (λ c. search needs)
     loop-less
     loop-again
     same-length

@@ -11,12 +11,6 @@ use borrow.Author.Needs.{needs}
 use Rattle.report.proofs.put_refusal.Statement.{statement}
 use Rattle.report.proofs.put_refusal.Tie as tie
 
-slice-aggregate-put-text : tie.Need-slice-aggregate-put-text
-slice-aggregate-put-text c = search needs
-
-put-text-requires : tie.Need-put-text-requires
-put-text-requires c κs = search needs
-
 put-after-requires : tie.Need-put-after-requires
 put-after-requires c κs =
     let a = c .before .before .before .before .before .before .before in
@@ -38,9 +32,6 @@ put-byte-requires c κs =
     let w = c .before .before .before .put-after2 .ensures in
     omega (arith, a .pre, u .place, wrote-length _ _ _ _ _ u, v .place, wrote-length _ _ _ _ _ v, w .place, wrote-length _ _ _ _ _ w, number-length 2 (a .args .number) (omega (arith, a .fits .number)), number-length 19 (a .args .place) (omega (arith, a .fits .place)))
 
-same-length : tie.Need-same-length
-same-length c = search needs
-
 returns : tie.Need-returns
 returns c = pair-wrote _ _ _ _ _ _ _ _ _ _ _ _ (c .before .before .before .before .before .before .before .before .before .before .before .before .before .before .put-text .ensures) (c .before .before .before .before .before .before .before .before .before .before .put-after .ensures) (c .before .before .before .before .before .before .put-after2 .ensures) (c .before .before .put-byte .ensures)
 
@@ -48,10 +39,10 @@ pub put-refusal-spec : {M : Type 1} → statement M
 put-refusal-spec =
     tie.close
     (tie.spec
-    slice-aggregate-put-text
-    put-text-requires
+    (λ c. search needs)
+    (λ c κs. search needs)
     put-after-requires
     put-after-requires-2
     put-byte-requires
-    same-length
+    (λ c. search needs)
     returns)

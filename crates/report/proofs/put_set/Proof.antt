@@ -10,23 +10,14 @@ use borrow.Author.Needs.{needs}
 use Rattle.report.proofs.put_set.Statement.{statement}
 use Rattle.report.proofs.put_set.Tie as tie
 
-slice-aggregate-put-text : tie.Need-slice-aggregate-put-text
-slice-aggregate-put-text c = search needs
-
 put-text-requires : tie.Need-put-text-requires
 put-text-requires c κs = omega (arith, c .before .before .before .before .pre, ap length (set-none (c .before .before .before .before .args .set) (c .before .before .if1 .taken)))
-
-same-length : tie.Need-same-length
-same-length c = search needs
 
 returns : tie.Need-returns
 returns c = wrote-as _ _ _ _ _ _ (sym (set-none _ (c .before .before .before .before .before .if1 .taken))) (c .before .before .put-text .ensures)
 
 put-groups-requires : tie.Need-put-groups-requires
 put-groups-requires c κs = omega (arith, c .before .before .before .pre, ap length (set-some (c .before .before .before .args .set) (c .before .if1 .left)))
-
-same-length-2 : tie.Need-same-length-2
-same-length-2 c = search needs
 
 returns-2 : tie.Need-returns-2
 returns-2 c = wrote-as _ _ _ _ _ _ (sym (set-some _ (c .before .before .before .before .if1 .left))) (c .before .before .put-groups .ensures)
@@ -35,10 +26,10 @@ pub put-set-spec : {M : Type 1} → statement M
 put-set-spec =
     tie.close
     (tie.spec
-    slice-aggregate-put-text
+    (λ c. search needs)
     put-text-requires
-    same-length
+    (λ c. search needs)
     returns
     put-groups-requires
-    same-length-2
+    (λ c. search needs)
     returns-2)

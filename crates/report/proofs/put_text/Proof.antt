@@ -23,19 +23,10 @@ abbrev μ-loop : tie.MeasureT-loop
 loop-holds : tie.Need-loop-holds Inv-loop μ-loop
 loop-holds c = writing-start _ _ _
 
-shared-slice-read-put-byte : tie.Need-shared-slice-read-put-byte Inv-loop μ-loop
-shared-slice-read-put-byte c = search needs
-
 put-byte-requires : tie.Need-put-byte-requires Inv-loop μ-loop
 put-byte-requires c κs =
     let l = c .before .before .before .loop in
     omega (arith, writing-room _ _ _ _ _ _ (l .inv) (c .before .before .before .before .before .before .pre), ap length (text-more (now (c .before .before .before .before .before .before .args .text)) (l .k) (c .before .before .loop-test .taken)))
-
-add-k : tie.Need-add-k Inv-loop μ-loop
-add-k c = search needs
-
-loop-less : tie.Need-loop-less Inv-loop μ-loop
-loop-less c = search needs
 
 loop-again : tie.Need-loop-again Inv-loop μ-loop
 loop-again c = writing-next _ _ _ _ _ _ (c .before .before .before .before .before .before .loop .inv) (_ ∷ []) _ _ _ (text-more _ _ (c .before .before .before .before .before .loop-test .taken)) (c .before .before .put-byte .ensures)
@@ -53,10 +44,10 @@ put-text-spec =
     Inv-loop
     μ-loop
     loop-holds
-    shared-slice-read-put-byte
+    (λ c. search needs)
     put-byte-requires
-    add-k
-    loop-less
+    (λ c. search needs)
+    (λ c. search needs)
     loop-again
     same-length
     returns)

@@ -10,21 +10,12 @@ use denote.Ref.{now}
 use lib.Bits.{bitOr}
 use borrow.Author.Tests.{not-true, not-false}
 
-has-requires : tie.Need-has-requires
-has-requires c κs = search needs
-
 returns : tie.Need-returns
 returns c = sym (ap (λ (b : Bool). cond b (bitOr (c .before .before .before .args .all) (getD (now (c .before .before .before .args .why)) (c .before .before .before .args .g) 0)) (c .before .before .before .args .all)) (sym (c .before .has .ensures) ∙ not-true _ (c .if1 .taken)))
-
-mul-result : tie.Need-mul-result
-mul-result c = search needs
-
-shared-slice-read-result : tie.Need-shared-slice-read-result
-shared-slice-read-result c = search needs
 
 returns-2 : tie.Need-returns-2
 returns-2 c = sym (ap (λ (b : Bool). cond b (bitOr (c .before .before .before .before .args .all) (getD (now (c .before .before .before .before .args .why)) (c .before .before .before .before .args .g) 0)) (c .before .before .before .before .args .all)) (sym (c .before .before .has .ensures) ∙ not-false _ (c .before .if1 .left)))
 
 pub add-reason-spec : {M : Type 1} → statement M
 add-reason-spec =
-    tie.close (tie.spec has-requires returns mul-result shared-slice-read-result returns-2)
+    tie.close (tie.spec (λ c κs. search needs) returns (λ c. search needs) (λ c. search needs) returns-2)

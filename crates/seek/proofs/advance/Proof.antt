@@ -22,23 +22,8 @@ kind-at-requires c κs = omega (arith, c .before .before .before .pre .0, c .bef
 press-requires : tie.Need-press-requires
 press-requires c κs = (c .before .before .before .before .before .before .pre .2, c .before .before .before .before .before .before .pre .3, c .before .before .before .before .before .before .pre .4)
 
-enum-known-groups : tie.Need-enum-known-groups
-enum-known-groups c = search needs
-
-enum-known-free : tie.Need-enum-known-free
-enum-known-free c = search needs
-
 press-requires-2 : tie.Need-press-requires-2
 press-requires-2 c κs = (c .before .before .before .before .before .before .pre .2, c .before .before .before .before .before .before .pre .3, parts-swap _ _ _ _ (c .before .before .before .before .before .before .pre .4))
-
-enum-known-groups-2 : tie.Need-enum-known-groups-2
-enum-known-groups-2 c = search needs
-
-enum-known-free-2 : tie.Need-enum-known-free-2
-enum-known-free-2 c = search needs
-
-same-length : tie.Need-same-length
-same-length c = search needs
 
 returns : tie.Need-returns
 returns c =
@@ -46,26 +31,17 @@ returns c =
     explanation-shut (c .before .before .before .before .before .before .before .before .before .before .before .before .args .groups) _ (c .before .before .before .before .before .before .before .before .before .set-at .result) (c .before .before .before .before .before .before .before .before .before .before .before .before .args .taken) (c .before .before .before .before .before .before .before .before .before .before .before .before .args .left) (c .before .before .before .before .before .before .before .before .before .before .before .before .args .free) (now (c .before .before .before .before .before .before .before .before .before .before .before .before .args .why)) _ (c .before .before .before .before .before .before .before .before .before .before .before .before .pre .4) (c .before .before .before .before .before .before .before .before .before .before .before .before .pre .3) B _
     (subst (λ (r : Pressed). Pressing (c .before .before .before .before .before .before .before .before .before .before .before .before .args .groups) (c .before .before .before .before .before .before .before .before .before .set-at .result) (c .before .before .before .before .before .before .before .before .before .before .before .before .args .taken) (c .before .before .before .before .before .before .before .before .before .before .before .before .args .left) (c .before .before .before .before .before .before .before .before .before .before .before .before .args .free) (now (c .before .before .before .before .before .before .before .before .before .before .before .before .args .why)) r (c .before .before .before .before .before .press .last .1 .1 .1 .1 .1 .0)) (c .before .groups .given .1) (c .before .before .before .before .before .press .ensures))
 
-same-length-2 : tie.Need-same-length-2
-same-length-2 c = search needs
-
 returns-2 : tie.Need-returns-2
 returns-2 c =
     let B = subst (λ (x : ℕ). Bars (Fits (c .before .before .before .before .before .before .before .before .before .before .before .before .args .groups) (recordsOf (now (c .before .before .before .before .before .before .before .before .before .before .before .before .args .records)) (c .before .before .before .before .before .before .before .before .before .before .before .before .args .count))) x 1) (sym (c .before .before .before .before .before .before .before .before .before .set-at .ensures)) (bars-explanation (c .before .before .before .before .before .before .before .before .before .before .before .before .args .groups) (now (c .before .before .before .before .before .before .before .before .before .before .before .before .args .records)) (c .before .before .before .before .before .before .before .before .before .before .before .before .args .count) (c .before .before .before .before .before .before .before .before .before .before .before .before .args .i) (c .before .before .before .before .before .before .before .before .before .before .before .before .pre .1) (sym (c .before .before .before .before .before .before .before .before .kind-at .ensures) ∙ c .before .before .before .before .before .before .before .if1 .taken)) in
     explanation-open (c .before .before .before .before .before .before .before .before .before .before .before .before .args .groups) _ (c .before .before .before .before .before .before .before .before .before .set-at .result) (c .before .before .before .before .before .before .before .before .before .before .before .before .args .taken) (c .before .before .before .before .before .before .before .before .before .before .before .before .args .left) (c .before .before .before .before .before .before .before .before .before .before .before .before .args .free) (now (c .before .before .before .before .before .before .before .before .before .before .before .before .args .why)) _ (c .before .before .before .before .before .before .before .before .before .before .before .before .pre .4) (c .before .before .before .before .before .before .before .before .before .before .before .before .pre .3) B _ _
     (subst (λ (r : Pressed). Pressing (c .before .before .before .before .before .before .before .before .before .before .before .before .args .groups) (c .before .before .before .before .before .before .before .before .before .set-at .result) (c .before .before .before .before .before .before .before .before .before .before .before .before .args .taken) (c .before .before .before .before .before .before .before .before .before .before .before .before .args .left) (c .before .before .before .before .before .before .before .before .before .before .before .before .args .free) (now (c .before .before .before .before .before .before .before .before .before .before .before .before .args .why)) r (c .before .before .before .before .before .press .last .1 .1 .1 .1 .1 .0)) (c .before .free .given .1) (c .before .before .before .before .before .press .ensures))
 
-same-length-3 : tie.Need-same-length-3
-same-length-3 c = search needs
-
 returns-3 : tie.Need-returns-3
 returns-3 c =
     let B = subst (λ (x : ℕ). Bars (Fits (c .before .before .before .before .before .before .before .before .before .before .before .before .args .groups) (recordsOf (now (c .before .before .before .before .before .before .before .before .before .before .before .before .args .records)) (c .before .before .before .before .before .before .before .before .before .before .before .before .args .count))) x 0) (sym (c .before .before .before .before .before .before .before .before .before .set-at .ensures)) (bars-repair (c .before .before .before .before .before .before .before .before .before .before .before .before .args .groups) (now (c .before .before .before .before .before .before .before .before .before .before .before .before .args .records)) (c .before .before .before .before .before .before .before .before .before .before .before .before .args .count) (c .before .before .before .before .before .before .before .before .before .before .before .before .args .i) (c .before .before .before .before .before .before .before .before .before .before .before .before .pre .1) (λ e. c .before .before .before .before .before .before .before .if1 .left (c .before .before .before .before .before .before .before .before .kind-at .ensures ∙ e))) in
     repair-shut (c .before .before .before .before .before .before .before .before .before .before .before .before .args .groups) _ (c .before .before .before .before .before .before .before .before .before .set-at .result) (c .before .before .before .before .before .before .before .before .before .before .before .before .args .taken) (c .before .before .before .before .before .before .before .before .before .before .before .before .args .left) (c .before .before .before .before .before .before .before .before .before .before .before .before .args .free) (now (c .before .before .before .before .before .before .before .before .before .before .before .before .args .why)) _ (c .before .before .before .before .before .before .before .before .before .before .before .before .pre .4) (c .before .before .before .before .before .before .before .before .before .before .before .before .pre .3) B _
     (subst (λ (r : Pressed). Pressing (c .before .before .before .before .before .before .before .before .before .before .before .before .args .groups) (c .before .before .before .before .before .before .before .before .before .set-at .result) (c .before .before .before .before .before .before .before .before .before .before .before .before .args .left) (c .before .before .before .before .before .before .before .before .before .before .before .before .args .taken) (c .before .before .before .before .before .before .before .before .before .before .before .before .args .free) (now (c .before .before .before .before .before .before .before .before .before .before .before .before .args .why)) r (c .before .before .before .before .before .press2 .last .1 .1 .1 .1 .1 .0)) (c .before .groups2 .given .1) (c .before .before .before .before .before .press2 .ensures))
-
-same-length-4 : tie.Need-same-length-4
-same-length-4 c = search needs
 
 returns-4 : tie.Need-returns-4
 returns-4 c =
@@ -80,16 +56,16 @@ advance-spec =
     set-at-requires
     kind-at-requires
     press-requires
-    enum-known-groups
-    enum-known-free
+    (λ c. search needs)
+    (λ c. search needs)
     press-requires-2
-    enum-known-groups-2
-    enum-known-free-2
-    same-length
+    (λ c. search needs)
+    (λ c. search needs)
+    (λ c. search needs)
     returns
-    same-length-2
+    (λ c. search needs)
     returns-2
-    same-length-3
+    (λ c. search needs)
     returns-3
-    same-length-4
+    (λ c. search needs)
     returns-4)

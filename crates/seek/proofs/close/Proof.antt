@@ -24,31 +24,16 @@ loop-holds c = (omega arith, same-refl _ _, narrows-none _ _ 0 _ _ _ _ (c .befor
 next-tight-requires : tie.Need-next-tight-requires Inv-loop μ-loop
 next-tight-requires c κs = (c .before .before .before .pre .0, c .loop .inv .0)
 
-same-length : tie.Need-same-length Inv-loop μ-loop
-same-length c = search needs
-
 returns : tie.Need-returns Inv-loop μ-loop
 returns c = (c .before .before .loop .inv .1, c .before .before .loop .inv .2)
 
 advance-requires : tie.Need-advance-requires Inv-loop μ-loop
 advance-requires c κs = (c .before .before .before .before .before .before .pre .0, omega (arith, c .before .if1 .left), c .before .before .before .before .before .before .pre .1, omega (arith, c .before .before .before .before .before .before .pre .2, c .before .before .before .loop .inv .1 .long), c .before .before .before .loop .inv .2 .parts)
 
-enum-known-groups : tie.Need-enum-known-groups Inv-loop μ-loop
-enum-known-groups c = search needs
-
-same-length-2 : tie.Need-same-length-2 Inv-loop μ-loop
-same-length-2 c = search needs
-
 returns-2 : tie.Need-returns-2 Inv-loop μ-loop
 returns-2 c =
     let a = subst (λ (r : Closed). Closing (c .before .before .before .before .before .before .before .before .before .before .before .before .args .groups) (Fits (c .before .before .before .before .before .before .before .before .before .before .before .before .args .groups) (recordsOf (now (c .before .before .before .before .before .before .before .before .before .before .before .before .args .records)) (c .before .before .before .before .before .before .before .before .before .before .before .before .args .count))) (c .before .before .before .before .before .before .before .before .before .loop .t) (c .before .before .before .before .before .before .before .before .before .loop .l) (c .before .before .before .before .before .before .before .before .before .loop .f) (c .before .before .before .before .before .before .before .before .before .loop .why) r (c .before .before .before .before .before .advance .last .1 .1 .1 .1 .1 .1 .1 .0)) (c .before .groups .given .1) (c .before .before .before .before .before .advance .ensures) in
     (then-same (c .before .before .before .before .before .before .before .before .before .before .before .before .args .groups) (Fits (c .before .before .before .before .before .before .before .before .before .before .before .before .args .groups) (recordsOf (now (c .before .before .before .before .before .before .before .before .before .before .before .before .args .records)) (c .before .before .before .before .before .before .before .before .before .before .before .before .args .count))) (c .before .before .before .before .before .before .before .before .before .before .before .before .args .taken) (c .before .before .before .before .before .before .before .before .before .before .before .before .args .left) (c .before .before .before .before .before .before .before .before .before .before .before .before .args .free) (now (c .before .before .before .before .before .before .before .before .before .before .before .before .args .why)) (c .before .before .before .before .before .before .before .before .before .loop .f) (c .before .before .before .before .before .before .before .before .before .loop .t) (c .before .before .before .before .before .before .before .before .before .loop .l) (c .before .before .before .before .before .before .before .before .before .loop .why) (c .before .before .before .before .before .before .before .before .before .loop .inv .2) (c .before .before .before .before .before .before .before .before .before .loop .inv .1) _ (a .0), λ held R. a .1 held (c .before .before .before .before .before .before .before .before .before .loop .inv .2 .reasons held R))
-
-enum-known-free : tie.Need-enum-known-free Inv-loop μ-loop
-enum-known-free c = search needs
-
-same-length-3 : tie.Need-same-length-3 Inv-loop μ-loop
-same-length-3 c = search needs
 
 returns-3 : tie.Need-returns-3 Inv-loop μ-loop
 returns-3 c =
@@ -73,14 +58,14 @@ close-spec =
     μ-loop
     loop-holds
     next-tight-requires
-    same-length
+    (λ c. search needs)
     returns
     advance-requires
-    enum-known-groups
-    same-length-2
+    (λ c. search needs)
+    (λ c. search needs)
     returns-2
-    enum-known-free
-    same-length-3
+    (λ c. search needs)
+    (λ c. search needs)
     returns-3
     loop-less
     loop-again)

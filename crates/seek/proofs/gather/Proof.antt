@@ -27,9 +27,6 @@ loop-holds c = (omega arith, sym (gathered-none _ _))
 add-reason-requires : tie.Need-add-reason-requires Inv-loop μ-loop
 add-reason-requires c κs = (omega (arith, c .loop-test .taken, c .before .before .before .pre .0), omega (arith, c .loop-test .taken, c .before .before .before .pre .1))
 
-add-g : tie.Need-add-g Inv-loop μ-loop
-add-g c = search needs
-
 loop-less : tie.Need-loop-less Inv-loop μ-loop
 loop-less c = omega (arith, c .before .loop-test .taken)
 
@@ -42,4 +39,4 @@ returns c = c .before .loop .inv .1 ∙ ap (gathered (now (c .before .before .be
 pub gather-spec : {M : Type 1} → statement M
 gather-spec =
     tie.close
-    (tie.spec Inv-loop μ-loop loop-holds add-reason-requires add-g loop-less loop-again returns)
+    (tie.spec Inv-loop μ-loop loop-holds add-reason-requires (λ c. search needs) loop-less loop-again returns)

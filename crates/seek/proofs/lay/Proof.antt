@@ -20,9 +20,6 @@ abbrev μ-loop : tie.MeasureT-loop
 loop-holds : tie.Need-loop-holds Inv-loop μ-loop
 loop-holds c = (omega arith, (λ j h. absurd (omega arith)), refl)
 
-cast-i : tie.Need-cast-i Inv-loop μ-loop
-cast-i c = search needs
-
 reason-requires : tie.Need-reason-requires Inv-loop μ-loop
 reason-requires c κs = omega (arith, c .loop-test .taken, c .before .before .before .pre .0)
 
@@ -54,7 +51,7 @@ lay-spec =
     Inv-loop
     μ-loop
     loop-holds
-    cast-i
+    (λ c. search needs)
     reason-requires
     mul-why
     slice-write-why

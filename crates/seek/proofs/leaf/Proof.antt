@@ -8,9 +8,6 @@ use mathlib.Core.Bool.{Bool, cond}
 use Rattle.seek.specs.Paths.{leafOf}
 use Rattle.seek.specs.declared.Sought.the-variants as Sought·v
 
-is-allowed-requires : tie.Need-is-allowed-requires
-is-allowed-requires c κs = search needs
-
 returns : tie.Need-returns
 unfolding leafOf
 returns c = sym (ap (λ (b : Bool). cond b (Sought·v.At (c .before .before .before .args .taken)) (Sought·v.Nothing (c .before .before .before .args .held))) (sym (c .before .is-allowed .ensures) ∙ c .if1 .taken))
@@ -20,4 +17,4 @@ unfolding leafOf
 returns-2 c = sym (ap (λ (b : Bool). cond b (Sought·v.At (c .before .before .before .args .taken)) (Sought·v.Nothing (c .before .before .before .args .held))) (sym (c .before .is-allowed .ensures) ∙ c .if1 .left))
 
 pub leaf-spec : {M : Type 1} → statement M
-leaf-spec = tie.close (tie.spec is-allowed-requires returns returns-2)
+leaf-spec = tie.close (tie.spec (λ c κs. search needs) returns returns-2)

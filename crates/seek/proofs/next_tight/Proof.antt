@@ -24,9 +24,6 @@ kind-at-requires c κs = omega (arith, c .previous .ensures, c .before .before .
 set-at-requires : tie.Need-set-at-requires Inv-loop μ-loop
 set-at-requires c κs = omega (arith, c .before .previous .ensures, c .before .before .before .before .before .pre .0)
 
-is-tight-requires : tie.Need-is-tight-requires Inv-loop μ-loop
-is-tight-requires c κs = search needs
-
 returns : tie.Need-returns Inv-loop μ-loop
 returns c = omega (arith, c .before .before .before .before .previous .ensures)
 
@@ -52,7 +49,7 @@ next-tight-spec =
     previous-requires
     kind-at-requires
     set-at-requires
-    is-tight-requires
+    (λ c κs. search needs)
     returns
     sub-unseen
     loop-less

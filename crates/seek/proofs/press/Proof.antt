@@ -17,20 +17,11 @@ use lib.Bits.{and-le-l}
 use lib.Pow.{pow-mono}
 use borrow.Author.Tests.{eqb-true, not-false, ltb-true}
 
-exceeds-requires : tie.Need-exceeds-requires
-exceeds-requires c κs = search needs
-
 returns : tie.Need-returns
 returns c = inl (refl, refl, refl)
 
-gather-requires : tie.Need-gather-requires
-gather-requires c κs = search needs
-
 sub-rest : tie.Need-sub-rest
 sub-rest c = and-le-l _ _
-
-same-length : tie.Need-same-length
-same-length c = search needs
 
 returns-2 : tie.Need-returns-2
 returns-2 c =
@@ -43,26 +34,14 @@ highest-requires c κs = (c .before .before .before .before .before .before .pre
 bit-requires : tie.Need-bit-requires
 bit-requires c κs = omega (arith, c .highest .ensures .0, c .before .before .before .before .before .before .before .pre .0)
 
-same-length-2 : tie.Need-same-length-2
-same-length-2 c = search needs
-
 returns-3 : tie.Need-returns-3
 returns-3 c = inl (refl, refl, refl)
 
 has-requires : tie.Need-has-requires
 has-requires c κs = omega (arith, c .before .before .highest .ensures .0, c .before .before .before .before .before .before .before .before .before .pre .0)
 
-same-length-3 : tie.Need-same-length-3
-same-length-3 c = search needs
-
 returns-4 : tie.Need-returns-4
 returns-4 c = inl (refl, refl, refl)
-
-cast-i : tie.Need-cast-i
-cast-i c = search needs
-
-mul-why : tie.Need-mul-why
-mul-why c = search needs
 
 slice-write-why : tie.Need-slice-write-why
 slice-write-why c = omega (arith, c .before .before .before .before .highest .ensures .0, c .before .before .before .before .before .before .before .before .before .before .before .pre .1)
@@ -74,9 +53,6 @@ add-t20 : tie.Need-add-t20
 add-t20 c =
     let q = parts-take (c .before .before .before .before .before .before .before .before .before .before .before .args .groups) (c .before .before .before .before .before .before .before .before .before .before .before .args .other) (c .before .before .before .before .before .before .before .before .before .before .before .args .side) (c .before .before .before .before .before .before .before .before .before .before .before .args .free) (parts-swap _ _ _ _ (c .before .before .before .before .before .before .before .before .before .before .before .pre .2)) (c .before .before .before .before .highest .result) (eqb-true _ _ (sym (c .before .has .ensures) ∙ not-false _ (c .if4 .left))) .taken-in in
     omega (arith, c .before .before .before .bit .ensures, q, pow-mono {i = c .before .before .before .before .before .before .before .before .before .before .before .args .groups} {j = 32} (c .before .before .before .before .before .before .before .before .before .before .before .pre .0))
-
-same-length-4 : tie.Need-same-length-4
-same-length-4 c = search needs
 
 returns-5 : tie.Need-returns-5
 returns-5 c =
@@ -93,23 +69,23 @@ pub press-spec : {M : Type 1} → statement M
 press-spec =
     tie.close
     (tie.spec
-    exceeds-requires
+    (λ c κs. search needs)
     returns
-    gather-requires
+    (λ c κs. search needs)
     sub-rest
-    same-length
+    (λ c. search needs)
     returns-2
     highest-requires
     bit-requires
-    same-length-2
+    (λ c. search needs)
     returns-3
     has-requires
-    same-length-3
+    (λ c. search needs)
     returns-4
-    cast-i
-    mul-why
+    (λ c. search needs)
+    (λ c. search needs)
     slice-write-why
     sub-t13
     add-t20
-    same-length-4
+    (λ c. search needs)
     returns-5)

@@ -11,20 +11,11 @@ use Rattle.seek.proofs.Below.{reason-in, reason-out}
 use Rattle.seek.specs.Paths.{above}
 use Rattle.meaning.proofs.Choices.{digit-lt}
 
-has-requires : tie.Need-has-requires
-has-requires c κs = search needs
-
-bit-requires : tie.Need-bit-requires
-bit-requires c κs = search needs
-
 returns : tie.Need-returns
 returns c = c .bit .ensures ∙ sym (reason-in _ _ (eqb-true _ _ (sym (c .before .before .has .ensures) ∙ c .before .if1 .taken)))
-
-above-requires : tie.Need-above-requires
-above-requires c κs = search needs
 
 returns-2 : tie.Need-returns-2
 returns-2 c = c .above .ensures ∙ sym (reason-out (c .before .before .before .args .last) (c .before .before .before .args .g) (omega (arith, digit-lt (c .before .before .before .args .last) (c .before .before .before .args .g), eqb-false (digit (c .before .before .before .args .last) (c .before .before .before .args .g)) 1 (sym (c .before .before .has .ensures) ∙ c .before .if1 .left))))
 
 pub reason-spec : {M : Type 1} → statement M
-reason-spec = tie.close (tie.spec has-requires bit-requires returns above-requires returns-2)
+reason-spec = tie.close (tie.spec (λ c κs. search needs) (λ c κs. search needs) returns (λ c κs. search needs) returns-2)

@@ -36,16 +36,10 @@ slice-aggregate-try-below c = sym (c .before .before .loop .inv .1)
 try-below-requires : tie.Need-try-below-requires Inv-loop μ-loop
 try-below-requires c κs = (c .before .before .before .before .before .before .before .pre .0, c .before .before .before .before .before .before .before .pre .1, omega (arith, c .before .before .before .before .before .before .before .pre .1, c .before .before .loop .inv .1), c .before .loop-test .taken, c .before .before .before .before .before .before .before .pre .2, c .before .before .loop .inv .2, c .before .before .before .before .before .before .before .pre .3, c .before .before .loop .inv .3, c .before .before .loop .inv .4)
 
-enum-known-choice : tie.Need-enum-known-choice Inv-loop μ-loop
-enum-known-choice c = search needs
-
 returns : tie.Need-returns Inv-loop μ-loop
 returns c =
     let r = subst (λ (r : Sought). Tries (Fits (c .before .before .before .before .before .before .before .before .before .before .before .before .args .groups) (recordsOf (now (c .before .before .before .before .before .before .before .before .before .before .before .before .args .records)) (c .before .before .before .before .before .before .before .before .before .before .before .before .args .count))) (c .before .before .before .before .before .before .before .before .before .before .before .before .args .last) (c .before .before .before .before .before .before .before .loop .g) r) (c .before .choice .given .1) (c .before .before .before .before .try-below .ensures .0) in
     at-seed (c .before .before .before .before .before .before .before .before .before .before .before .before .args .groups) (recordsOf (now (c .before .before .before .before .before .before .before .before .before .before .before .before .args .records)) (c .before .before .before .before .before .before .before .before .before .before .before .before .args .count)) _ (r .0) (r .1)
-
-enum-known-c : tie.Need-enum-known-c Inv-loop μ-loop
-enum-known-c c = search needs
 
 add-g : tie.Need-add-g Inv-loop μ-loop
 add-g c = omega (arith, c .before .before .before .before .before .before .loop-test .taken, c .before .before .before .before .before .before .before .before .before .before .before .before .pre .1)
@@ -75,9 +69,9 @@ seek-below-spec =
     loop-holds
     slice-aggregate-try-below
     try-below-requires
-    enum-known-choice
+    (λ c. search needs)
     returns
-    enum-known-c
+    (λ c. search needs)
     add-g
     loop-less
     loop-again

@@ -17,32 +17,14 @@ use Rattle.seek.specs.Paths.{above}
 use Rattle.meaning.proofs.Choices.{digit-lt}
 use lib.ListN.{length-set}
 
-has-requires : tie.Need-has-requires
-has-requires c κs = search needs
-
 returns : tie.Need-returns
 returns c = ((c .before .before .before .before .pre .7, clear-other (Fits (c .before .before .before .before .args .groups) (recordsOf (now (c .before .before .before .before .args .records)) (c .before .before .before .before .args .count))) (c .before .before .before .before .args .last) (c .before .before .before .before .pre .6) (c .before .before .before .before .args .g) (omega (arith, digit-lt (c .before .before .before .before .args .last) (c .before .before .before .before .args .g), eqb-false (digit (c .before .before .before .before .args .last) (c .before .before .before .before .args .g)) 1 (sym (c .before .has .ensures) ∙ not-true _ (c .if1 .taken)))) (c .before .before .before .before .pre .8)), along-next _ _ _ (now (c .before .before .before .before .args .why)) (c .before .before .before .before .pre .5), refl)
-
-above-requires : tie.Need-above-requires
-above-requires c κs = search needs
 
 returns-2 : tie.Need-returns-2
 returns-2 c = (tries-ruled (Fits (c .before .before .before .before .before .before .args .groups) (recordsOf (now (c .before .before .before .before .before .before .args .records)) (c .before .before .before .before .before .before .args .count))) (c .before .before .before .before .before .before .args .last) (c .before .before .before .before .before .before .pre .6) (c .before .before .before .before .before .before .args .g) (c .before .before .before .before .before .before .args .ruled) (c .before .above .result) (c .before .before .before .before .before .before .pre .7) (c .before .above .ensures) (c .if2 .taken), along-next _ _ _ (now (c .before .before .before .before .before .before .args .why)) (c .before .before .before .before .before .before .pre .5), refl)
 
-bit-requires : tie.Need-bit-requires
-bit-requires c κs = search needs
-
 sub-free : tie.Need-sub-free
 sub-free c = omega (arith, c .bit .ensures, pow-pos (c .before .before .before .before .before .before .before .args .g))
-
-mul-why : tie.Need-mul-why
-mul-why c = search needs
-
-slice-write-why : tie.Need-slice-write-why
-slice-write-why c = search needs
-
-all-requires : tie.Need-all-requires
-all-requires c κs = search needs
 
 sub-search : tie.Need-sub-search
 sub-search c = omega (arith, c .all .ensures, c .before .before .before .above .ensures, held-fits (c .before .before .before .before .before .before .before .before .args .groups) (c .before .before .before .before .before .before .before .before .args .last) (c .before .before .before .before .before .before .before .before .args .g) (c .before .before .before .before .before .before .before .before .pre .4) (eqb-true (digit (c .before .before .before .before .before .before .before .before .args .last) (c .before .before .before .before .before .before .before .before .args .g)) 1 (sym (c .before .before .before .before .before .has .ensures) ∙ not-false _ (c .before .before .before .before .if1 .left))))
@@ -72,15 +54,15 @@ pub try-below-spec : {M : Type 1} → statement M
 try-below-spec =
     tie.close
     (tie.spec
-    has-requires
+    (λ c κs. search needs)
     returns
-    above-requires
+    (λ c κs. search needs)
     returns-2
-    bit-requires
+    (λ c κs. search needs)
     sub-free
-    mul-why
-    slice-write-why
-    all-requires
+    (λ c. search needs)
+    (λ c. search needs)
+    (λ c κs. search needs)
     sub-search
     sub-search-2
     search-requires

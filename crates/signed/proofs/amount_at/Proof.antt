@@ -7,21 +7,6 @@ use borrow.Author.Needs.{needs}
 use Rattle.signed.proofs.amount_at.Statement.{statement}
 use Rattle.signed.proofs.amount_at.Tie as tie
 
-number-at-requires : tie.Need-number-at-requires
-number-at-requires c κs = search needs
-
-enum-known-n : tie.Need-enum-known-n
-enum-known-n c = search needs
-
-cast-result : tie.Need-cast-result
-cast-result c = search needs
-
-enum-known-n-2 : tie.Need-enum-known-n-2
-enum-known-n-2 c = search needs
-
-cast-result-2 : tie.Need-cast-result-2
-cast-result-2 c = search needs
-
 returns : tie.Need-returns
 returns c = ap (λ (k : ℕ). k % 65536) (size-plus _ _ (sym (c .before .before .before .number-at .ensures) ∙ c .before .n .given .1))
 
@@ -32,10 +17,10 @@ pub amount-at-spec : {M : Type 1} → statement M
 amount-at-spec =
     tie.close
     (tie.spec
-    number-at-requires
-    enum-known-n
-    cast-result
-    enum-known-n-2
-    cast-result-2
+    (λ c κs. search needs)
+    (λ c. search needs)
+    (λ c. search needs)
+    (λ c. search needs)
+    (λ c. search needs)
     returns
     returns-2)

@@ -20,12 +20,6 @@ under c = below _ (c .before .x .given) (c .if1 .taken)
 over : (c : tie.Else1) → Above (number (c .before))
 over c = above _ (c .before .x .given) (c .if1 .left)
 
-mul-x : tie.Need-mul-x
-mul-x c = search needs
-
-shared-slice-copy-out-x : tie.Need-shared-slice-copy-out-x
-shared-slice-copy-out-x c = search needs
-
 sub-y : tie.Need-sub-y
 sub-y c = under c .fits
 
@@ -47,4 +41,4 @@ returns-2 c = over c .is
 pub number-at-spec : {M : Type 1} → statement M
 number-at-spec =
     tie.close
-    (tie.spec mul-x shared-slice-copy-out-x sub-y cast-t9 add-t10 returns cast-t11 returns-2)
+    (tie.spec (λ c. search needs) (λ c. search needs) sub-y cast-t9 add-t10 returns cast-t11 returns-2)

@@ -9,24 +9,12 @@ use Rattle.signed.proofs.put_minus.Tie as tie
 use Rattle.signed.proofs.put_minus.Reads as reads
 use Rattle.signed.proofs.put_minus.Lts as lts
 
-cast-out : tie.Need-cast-out
-cast-out c = search needs
-
 sub-out : tie.Need-sub-out
 sub-out c = minus-fits _ (c .fits .n .fits)
-
-mul-t6 : tie.Need-mul-t6
-mul-t6 c = search needs
-
-slice-set-from-out : tie.Need-slice-set-from-out
-slice-set-from-out c = search needs
-
-same-length : tie.Need-same-length
-same-length c = search needs
 
 returns : tie.Need-returns
 returns c = ap (set (c .args .out .now) (c .args .at)) (minus-is _ (c .fits .n .fits))
 
 pub put-minus-spec : {M : Type 1} → statement M
 put-minus-spec =
-    tie.close (tie.spec cast-out sub-out mul-t6 slice-set-from-out same-length returns)
+    tie.close (tie.spec (λ c. search needs) sub-out (λ c. search needs) (λ c. search needs) (λ c. search needs) returns)

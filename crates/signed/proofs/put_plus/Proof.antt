@@ -9,20 +9,8 @@ use Rattle.signed.proofs.put_plus.Tie as tie
 use Rattle.signed.proofs.put_plus.Reads as reads
 use Rattle.signed.proofs.put_plus.Lts as lts
 
-cast-out : tie.Need-cast-out
-cast-out c = search needs
-
-mul-t5 : tie.Need-mul-t5
-mul-t5 c = search needs
-
-slice-set-from-out : tie.Need-slice-set-from-out
-slice-set-from-out c = search needs
-
-same-length : tie.Need-same-length
-same-length c = search needs
-
 returns : tie.Need-returns
 returns c = ap (set (c .args .out .now) (c .args .at)) (plus-is _ (c .fits .n .fits))
 
 pub put-plus-spec : {M : Type 1} → statement M
-put-plus-spec = tie.close (tie.spec cast-out mul-t5 slice-set-from-out same-length returns)
+put-plus-spec = tie.close (tie.spec (λ c. search needs) (λ c. search needs) (λ c. search needs) (λ c. search needs) returns)

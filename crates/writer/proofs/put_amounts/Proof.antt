@@ -43,20 +43,8 @@ room c =
 loop-holds : tie.Need-loop-holds Inv-loop μ-loop
 loop-holds c = writing-start _ _ _
 
-amount-at-requires : tie.Need-amount-at-requires Inv-loop μ-loop
-amount-at-requires c κs = search needs
-
 put-word-requires : tie.Need-put-word-requires Inv-loop μ-loop
 put-word-requires c κs = room (c .before .before)
-
-sub-t : tie.Need-sub-t Inv-loop μ-loop
-sub-t c = search needs
-
-part-t-start : tie.Need-part-t-start Inv-loop μ-loop
-part-t-start c = search needs
-
-part-t-end : tie.Need-part-t-end Inv-loop μ-loop
-part-t-end c = search needs
 
 loop-less : tie.Need-loop-less Inv-loop μ-loop
 loop-less c = omega (arith, tail-length (c .before .before .before .before .before .before .before .loop .t .now) (some (c .before .before .before .before .before .before)))
@@ -79,11 +67,11 @@ put-amounts-spec =
     Inv-loop
     μ-loop
     loop-holds
-    amount-at-requires
+    (λ c κs. search needs)
     put-word-requires
-    sub-t
-    part-t-start
-    part-t-end
+    (λ c. search needs)
+    (λ c. search needs)
+    (λ c. search needs)
     loop-less
     loop-again
     same-length

@@ -24,24 +24,6 @@ groups : (c : tie.After-put-amounts) → (c .put-amounts .result ≡ c .before .
 groups c =
     (omega (arith, c .put-amounts .ensures .place, length-wordBytes (amounts (now (c .before .before .before .before .before .before .before .args .groups))), length-amounts (now (c .before .before .before .before .before .before .before .args .groups))), c .put-amounts .kept .1 .0)
 
-mul-n : tie.Need-mul-n
-mul-n c = search needs
-
-add-n : tie.Need-add-n
-add-n c = search needs
-
-mul-n-2 : tie.Need-mul-n-2
-mul-n-2 c = search needs
-
-add-n-2 : tie.Need-add-n-2
-add-n-2 c = search needs
-
-cast-put-front : tie.Need-cast-put-front
-cast-put-front c = search needs
-
-put-front-requires : tie.Need-put-front-requires
-put-front-requires c κs = search needs
-
 put-amounts-requires : tie.Need-put-amounts-requires
 put-amounts-requires c κs = omega (arith, c .before .before .before .before .before .before .pre .1, front (c .before .before .before))
 
@@ -61,12 +43,12 @@ pub put-clause-spec : {M : Type 1} → statement M
 put-clause-spec =
     tie.close
     (tie.spec
-    mul-n
-    add-n
-    mul-n-2
-    add-n-2
-    cast-put-front
-    put-front-requires
+    (λ c. search needs)
+    (λ c. search needs)
+    (λ c. search needs)
+    (λ c. search needs)
+    (λ c. search needs)
+    (λ c κs. search needs)
     put-amounts-requires
     put-word-requires
     put-amounts-requires-2

@@ -52,9 +52,6 @@ sub-t c = omega (arith, begin c .long)
 part-t-start : tie.Need-part-t-start Inv-loop μ-loop
 part-t-start c = omega (arith, begin c .long)
 
-part-t-end : tie.Need-part-t-end Inv-loop μ-loop
-part-t-end c = search needs
-
 loop-holds : tie.Need-loop-holds Inv-loop μ-loop
 loop-holds c = begin (c .before) .start
 
@@ -64,26 +61,17 @@ sub-scan-clause c = omega (arith, c .loop-test .taken)
 part-scan-clause-start : tie.Need-part-scan-clause-start Inv-loop μ-loop
 part-scan-clause-start c = omega (arith, c .loop-test .taken)
 
-part-scan-clause-end : tie.Need-part-scan-clause-end Inv-loop μ-loop
-part-scan-clause-end c = search needs
-
 add-scan-clause : tie.Need-add-scan-clause Inv-loop μ-loop
 add-scan-clause c = omega (arith, c .before .before .loop .inv .place, c .before .before .before .before .before .good)
 
 scan-clause-requires : tie.Need-scan-clause-requires Inv-loop μ-loop
 scan-clause-requires c κs = omega (arith, c .before .before .loop .inv .place, c .before .before .before .before .before .good, tail-length (c .before .before .loop .t .now) (some (c .before)))
 
-enum-told : tie.Need-enum-told Inv-loop μ-loop
-enum-told c = search needs
-
 same-length : tie.Need-same-length Inv-loop μ-loop
 same-length c = writing-length _ _ _ _ _ _ (c .before .before .before .before .before .loop .inv .writing)
 
 returns : tie.Need-returns Inv-loop μ-loop
 returns c = absurd (copy-none _ _ _ _ _ _ (c .before .before .before .before .before .loop .t .now) _ _ (c .before .before .before .before .before .loop .inv) (some (c .before .before .before .before)) _ _ (sym (c .enum-told .given .1) ∙ c .before .before .scan-clause .ensures))
-
-enum-known-head : tie.Need-enum-known-head Inv-loop μ-loop
-enum-known-head c = search needs
 
 cast-end : tie.Need-cast-end Inv-loop μ-loop
 cast-end c = omega (arith, at (c .before) .few)
@@ -158,17 +146,17 @@ put-clauses-spec =
     μ-loop
     sub-t
     part-t-start
-    part-t-end
+    (λ c. search needs)
     loop-holds
     sub-scan-clause
     part-scan-clause-start
-    part-scan-clause-end
+    (λ c. search needs)
     add-scan-clause
     scan-clause-requires
-    enum-told
+    (λ c. search needs)
     same-length
     returns
-    enum-known-head
+    (λ c. search needs)
     cast-end
     add-end
     sub-put-clause

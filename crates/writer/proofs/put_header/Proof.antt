@@ -9,9 +9,6 @@ use borrow.Author.Needs.{needs}
 use Rattle.writer.proofs.put_header.Statement.{statement}
 use Rattle.writer.proofs.put_header.Tie as tie
 
-put-front-requires : tie.Need-put-front-requires
-put-front-requires c κs = search needs
-
 put-word-requires : tie.Need-put-word-requires
 put-word-requires c κs = omega (arith, c .before .before .before .put-front .ensures .place, c .before .before .before .put-front .kept .1 .1 .0, length-wordBytes (4 ∷ []))
 
@@ -27,4 +24,4 @@ returns c = header-wrote _ _ _ _ _ _ _ _ _ (c .before .before .before .before .b
 pub put-header-spec : {M : Type 1} → statement M
 put-header-spec =
     tie.close
-    (tie.spec put-front-requires put-word-requires put-word-requires-2 same-length returns)
+    (tie.spec (λ c κs. search needs) put-word-requires put-word-requires-2 same-length returns)

@@ -31,20 +31,11 @@ sub-t c = omega (arith, c .before .if1 .left)
 part-t-start : tie.Need-part-t-start Inv-loop μ-loop
 part-t-start c = omega (arith, c .before .if1 .left)
 
-part-t-end : tie.Need-part-t-end Inv-loop μ-loop
-part-t-end c = search needs
-
 add-next : tie.Need-add-next Inv-loop μ-loop
 add-next c = omega (arith, c .before .before .before .loop .inv .place, c .before .before .before .before .pre)
 
-enum-known-x : tie.Need-enum-known-x Inv-loop μ-loop
-enum-known-x c = search needs
-
 returns-2 : tie.Need-returns-2 Inv-loop μ-loop
 returns-2 c = scanning-zero _ _ _ (c .before .before .before .before .before .before .before .loop .t .now) _ _ _ _ (c .before .before .before .before .before .before .before .loop .inv) (c .before .before .before .before .before .before .if1 .left) _ (sym (c .before .before .before .before .before .number-at .ensures) ∙ c .before .before .x .given .1) (c .if2 .taken)
-
-wrong-head-requires : tie.Need-wrong-head-requires Inv-loop μ-loop
-wrong-head-requires c κs = search needs
 
 returns-3 : tie.Need-returns-3 Inv-loop μ-loop
 returns-3 c = scanning-bad-head _ _ _ (c .before .before .before .before .before .before .before .before .before .loop .t .now) _ _ _ _ (c .before .before .before .before .before .before .before .before .before .loop .inv) (c .before .before .before .before .before .before .before .before .if1 .left) _ (sym (c .before .before .before .before .before .before .before .number-at .ensures) ∙ c .before .before .before .before .x .given .1) (c .before .before .if2 .left) _ (c .before .wrong-head .ensures) (c .if3 .taken)
@@ -59,12 +50,6 @@ loop-less c = omega (arith, tail-length (c .before .before .before .before .befo
 
 loop-again : tie.Need-loop-again Inv-loop μ-loop
 loop-again c = scanning-head _ _ _ (c .before .before .before .before .before .before .before .before .before .loop .t .now) _ _ _ _ (c .before .before .before .before .before .before .before .before .before .loop .inv) (c .before .before .before .before .before .before .before .before .if1 .left) _ (sym (c .before .before .before .before .before .before .before .number-at .ensures) ∙ c .before .before .before .before .x .given .1) (c .before .before .if2 .left) _ (c .before .wrong-head .ensures) (c .if3 .left)
-
-enum-known-x-2 : tie.Need-enum-known-x-2 Inv-loop μ-loop
-enum-known-x-2 c = search needs
-
-wrong-body-requires : tie.Need-wrong-body-requires Inv-loop μ-loop
-wrong-body-requires c κs = search needs
 
 returns-4 : tie.Need-returns-4 Inv-loop μ-loop
 returns-4 c = scanning-bad-body _ _ _ (c .before .before .before .before .before .before .before .before .loop .t .now) _ _ _ _ (c .before .before .before .before .before .before .before .before .loop .inv) (c .before .before .before .before .before .before .before .if1 .left) _ (sym (c .before .before .before .before .before .before .number-at .ensures) ∙ c .before .before .before .x2 .given .1) _ (c .before .wrong-body .ensures) (c .if4 .taken)
@@ -94,17 +79,17 @@ scan-clause-spec =
     number-at-requires
     sub-t
     part-t-start
-    part-t-end
+    (λ c. search needs)
     add-next
-    enum-known-x
+    (λ c. search needs)
     returns-2
-    wrong-head-requires
+    (λ c κs. search needs)
     returns-3
     cast-head
     loop-less
     loop-again
-    enum-known-x-2
-    wrong-body-requires
+    (λ c. search needs)
+    (λ c κs. search needs)
     returns-4
     cast-last
     add-count

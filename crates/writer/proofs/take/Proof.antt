@@ -10,29 +10,14 @@ use Rattle.writer.proofs.take.Tie as tie
 returns : tie.Need-returns
 returns c = take-none _ (c .if1 .taken)
 
-wrong-number-requires : tie.Need-wrong-number-requires
-wrong-number-requires c κs = search needs
-
 returns-2 : tie.Need-returns-2
 returns-2 c = take-variables _ (c .before .before .if1 .left) _ (c .before .wrong-number .ensures) (c .if2 .taken)
 
 returns-3 : tie.Need-returns-3
 returns-3 c = take-one _ (c .before .before .before .if1 .left) _ (c .before .before .wrong-number .ensures) (c .before .if2 .left) (c .if3 .taken)
 
-wrong-number-requires-2 : tie.Need-wrong-number-requires-2
-wrong-number-requires-2 c κs = search needs
-
 returns-4 : tie.Need-returns-4
 returns-4 c = take-groups _ (c .before .before .before .before .before .if1 .left) _ (c .before .before .before .before .wrong-number .ensures) (c .before .before .before .if2 .left) (c .before .before .if3 .left) _ (c .before .wrong-number2 .ensures) (c .if4 .taken)
-
-amount-at-requires : tie.Need-amount-at-requires
-amount-at-requires c κs = search needs
-
-amount-at-requires-2 : tie.Need-amount-at-requires-2
-amount-at-requires-2 c κs = search needs
-
-take-clauses-requires : tie.Need-take-clauses-requires
-take-clauses-requires c κs = search needs
 
 returns-5 : tie.Need-returns-5
 returns-5 c =
@@ -45,12 +30,12 @@ take-spec =
     tie.close
     (tie.spec
     returns
-    wrong-number-requires
+    (λ c κs. search needs)
     returns-2
     returns-3
-    wrong-number-requires-2
+    (λ c κs. search needs)
     returns-4
-    amount-at-requires
-    amount-at-requires-2
-    take-clauses-requires
+    (λ c κs. search needs)
+    (λ c κs. search needs)
+    (λ c κs. search needs)
     returns-5)

@@ -26,15 +26,6 @@ next : (c : tie.After-count Inv-loop μ-loop)
     Next (a .variables) (a .groups) (a .plain .now) (l .loop .t .now) (l .loop .place) (c .before .before .before .before .before .before .before .if1 .left) (l .loop .size) _ (c .before .before .before .before .before .wrong-number .ensures) (l .loop .left) (d .1 .0) (d .1 .1 .0)
 next c = passing-next _ _ _ (c .before .before .before .before .before .before .before .before .loop .t .now) _ (c .before .before .before .before .before .before .before .if1 .left) _ _ (c .before .before .before .before .before .wrong-number .ensures) _ (c .before .before .before .before .before .before .if2 .left) (c .before .before .before .before .before .before .before .before .loop .inv) (c .before .before .before .before .if3 .left) _ _ _ (sym (c .count .given .1) ∙ c .before .before .scan-clause .ensures)
 
-sub-t : tie.Need-sub-t Inv-loop μ-loop
-sub-t c = search needs
-
-part-t-start : tie.Need-part-t-start Inv-loop μ-loop
-part-t-start c = search needs
-
-part-t-end : tie.Need-part-t-end Inv-loop μ-loop
-part-t-end c = search needs
-
 loop-holds : tie.Need-loop-holds Inv-loop μ-loop
 loop-holds c = passing-start _ _ _ (c .before .pre .0)
 
@@ -56,23 +47,14 @@ sub-scan-clause c = omega (arith, c .before .before .before .if1 .left)
 part-scan-clause-start : tie.Need-part-scan-clause-start Inv-loop μ-loop
 part-scan-clause-start c = omega (arith, c .before .before .before .if1 .left)
 
-part-scan-clause-end : tie.Need-part-scan-clause-end Inv-loop μ-loop
-part-scan-clause-end c = search needs
-
 add-scan-clause : tie.Need-add-scan-clause Inv-loop μ-loop
 add-scan-clause c = omega (arith, c .before .before .before .before .before .loop .inv .place, c .before .before .before .before .before .before .before .pre .1)
 
 scan-clause-requires : tie.Need-scan-clause-requires Inv-loop μ-loop
 scan-clause-requires c κs = omega (arith, c .before .before .before .before .before .loop .inv .place, c .before .before .before .before .before .before .before .pre .1, tail-length (c .before .before .before .before .before .loop .t .now) (c .before .before .before .before .if1 .left))
 
-enum-known-number : tie.Need-enum-known-number Inv-loop μ-loop
-enum-known-number c = search needs
-
 returns-4 : tie.Need-returns-4 Inv-loop μ-loop
 returns-4 c = passing-wrong _ _ _ (c .before .before .before .before .before .before .before .before .before .loop .t .now) _ (c .before .before .before .before .before .before .before .before .if1 .left) _ _ (c .before .before .before .before .before .before .wrong-number .ensures) _ (c .before .before .before .before .before .before .before .if2 .left) (c .before .before .before .before .before .before .before .before .before .loop .inv) (c .before .before .before .before .before .if3 .left) _ _ (sym (c .before .number .given .1) ∙ c .before .before .before .scan-clause .ensures)
-
-enum-known-count : tie.Need-enum-known-count Inv-loop μ-loop
-enum-known-count c = search needs
 
 cast-size : tie.Need-cast-size Inv-loop μ-loop
 cast-size c = omega (arith, next (c .before) .few)
@@ -118,9 +100,9 @@ take-clauses-spec =
     (tie.spec
     Inv-loop
     μ-loop
-    sub-t
-    part-t-start
-    part-t-end
+    (λ c. search needs)
+    (λ c. search needs)
+    (λ c. search needs)
     loop-holds
     returns
     returns-2
@@ -128,12 +110,12 @@ take-clauses-spec =
     returns-3
     sub-scan-clause
     part-scan-clause-start
-    part-scan-clause-end
+    (λ c. search needs)
     add-scan-clause
     scan-clause-requires
-    enum-known-number
+    (λ c. search needs)
     returns-4
-    enum-known-count
+    (λ c. search needs)
     cast-size
     mul-size
     add-size

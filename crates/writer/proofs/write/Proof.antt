@@ -17,15 +17,6 @@ use Rattle.writer.proofs.write.Tie as tie
 book-is : (c : tie.After-variables) → Took (now (c .before .before .before .before .args .plain)) (c .variables .given .0 .0) (c .variables .given .0 .1 .0) (c .variables .given .0 .1 .1 .0)
 book-is c = took _ _ _ _ (sym (c .variables .given .1) ∙ c .before .before .take .ensures)
 
-take-requires : tie.Need-take-requires
-take-requires c κs = search needs
-
-enum-known-number : tie.Need-enum-known-number
-enum-known-number c = search needs
-
-enum-known-variables : tie.Need-enum-known-variables
-enum-known-variables c = search needs
-
 returns : tie.Need-returns
 unfolding IsPlain
 returns c = let k = book-is (c .before .before) in write-long _ _ _ (k .is) (omega (arith, c .if1 .taken, k .size))
@@ -59,9 +50,9 @@ pub write-spec : {M : Type 1} → statement M
 write-spec =
     tie.close
     (tie.spec
-    take-requires
-    enum-known-number
-    enum-known-variables
+    (λ c κs. search needs)
+    (λ c. search needs)
+    (λ c. search needs)
     returns
     returns-2
     put-header-requires

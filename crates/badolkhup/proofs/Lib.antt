@@ -1,0 +1,3 @@
+-- Laws of the boundary.
+pub mod Crossing
+pub mod Sole

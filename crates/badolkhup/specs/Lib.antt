@@ -1,0 +1,2 @@
+-- The boundary to C: how an answer crosses it.
+pub mod Crossing

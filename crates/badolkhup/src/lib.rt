@@ -20,13 +20,14 @@ use book::Checked;
 use explain::Explained;
 use list::Listed;
 
+// How many values an answer has, and the values.
 fn put(answer: &mut [u64; 4], count: u64, first: u64, second: u64, third: u64)
     ensures { λ _. ⌜ now (answer .exit) ≡ count ∷ first ∷ second ∷ third ∷ [] ⌝ }
 {
     *answer = [count, first, second, third];
 }
 
-// The answers that refuse.
+// A refusal's one value is its place. The functions below do the same for each enum that a call answers with.
 fn cross_refused(number: u8, place: usize, answer: &mut [u64; 4]) -> u32
     ensures { λ r. ⌜ Crosses (refused number place) r (now (answer .exit)) ⌝ }
 {

@@ -53,14 +53,7 @@ pub fn highest(x: u32, n: u32) -> u32
     requires { ⌜ (n ≤ width) × (x < 2 ^ n) × (x ≢ 0) ⌝ }
     ensures { λ r. ⌜ (r < n) × Highest x r ⌝ }
 {
-    let mut g = n;
-    while 0 < g {
-        g -= 1;
-        if has(x, g) {
-            return g;
-        }
-    }
-    0
+    WIDTH - 1 - u32::leading_zeros(x)
 }
 
 // The groups of a choice above one.

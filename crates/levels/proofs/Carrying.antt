@@ -1,11 +1,11 @@
 -- Levels after a pass, for the next one.
---   level-above, level-below, level-own      one level carried on, by the group at which the pass ended
+--   level-above, level-aside, level-below, level-own      one level carried on, by the group at which the pass ended
 --   carry-next, carry-all    the first i levels carried on: one more, all of them
 --   length-carried           how many levels there are stays
 --   settled-settling         settled levels are not too low
 --   settling-carried         levels that are not too low are so after the pass too, for what is kept and left then
 -- Assumes nothing.
-use Prim.Native.Nat.{ℕ, zero, suc, _+_, _-_, _*_, _%_, _^_, _≤_, _<_, min}
+use Prim.Native.Nat.{ℕ, zero, suc, _+_, _-_, _*_, _%_, _^_, _≤_, _<_, min, max}
 use mathlib.Core.Path.{_≡_, refl, sym, ap, _∙_, subst}
 use mathlib.Core.Logic.{_⊎_, inl, inr}
 use mathlib.Core.List.{List, [], _∷_, _++_, append-nil}
@@ -31,11 +31,14 @@ use Rattle.levels.proofs.Thresholds.{apart-up-to}
 
 -- ---- one level
 module _ (g l : ℕ) where
-  by-test : (b : Bool) → leb l g ≡ b → carriedTo g l ≡ cond b (min l (g - 1)) never
-  by-test b e = ap (λ (b : Bool). cond b (min l (g - 1)) never) e
+  by-test : (b : Bool) → leb l g ≡ b → carriedTo g l ≡ cond b (min l (g - 1)) (max never l)
+  by-test b e = ap (λ (b : Bool). cond b (min l (g - 1)) (max never l)) e
 
-  pub level-above : g < l → never ≡ carriedTo g l
-  level-above h = sym (by-test false (lt-leb l g h))
+  pub level-above : g < l → l ≤ never → never ≡ carriedTo g l
+  level-above h k = let e : max never l ≡ never = omega arith in sym (by-test false (lt-leb l g h) ∙ e)
+
+  pub level-aside : g < l → never < l → l ≡ carriedTo g l
+  level-aside h k = let e : max never l ≡ l = omega arith in sym (by-test false (lt-leb l g h) ∙ e)
 
   pub level-below : l < g → l ≡ carriedTo g l
   level-below h = let e : min l (g - 1) ≡ l = omega arith in sym (by-test true (le-leb l g (omega arith)) ∙ e)
@@ -83,7 +86,7 @@ module _ (g t : ℕ) (some : 1 ≤ g) (h : t ≤ mostGroups) where
   level-low l k = go (lt-or-ge g l)
     where
       go : (g < l) ⊎ (l ≤ g) → leb (carriedTo g l) t ≡ leb l t
-      go (inl m) = ap (λ (z : ℕ). leb z t) (sym (level-above g l m)) ∙ lt-leb never t (omega arith) ∙ sym (lt-leb l t (omega arith))
+      go (inl m) = ap (λ (z : ℕ). leb z t) (by-test g l false (lt-leb l g m)) ∙ lt-leb (max never l) t (omega arith) ∙ sym (lt-leb l t (omega arith))
       go (inr m) = ap (λ (z : ℕ). leb z t) (by-test g l true (le-leb l g m)) ∙ same-test (min l (g - 1)) l t t (λ q. omega arith) (λ q. omega arith)
 
   -- from there on: what came up to the group
@@ -91,7 +94,7 @@ module _ (g t : ℕ) (some : 1 ≤ g) (h : t ≤ mostGroups) where
   level-high l k = go (lt-or-ge g l)
     where
       go : (g < l) ⊎ (l ≤ g) → leb (carriedTo g l) t ≡ leb l g
-      go (inl m) = ap (λ (z : ℕ). leb z t) (sym (level-above g l m)) ∙ lt-leb never t (omega arith) ∙ sym (lt-leb l g m)
+      go (inl m) = ap (λ (z : ℕ). leb z t) (by-test g l false (lt-leb l g m)) ∙ lt-leb (max never l) t (omega arith) ∙ sym (lt-leb l g m)
       go (inr m) = ap (λ (z : ℕ). leb z t) (by-test g l true (le-leb l g m)) ∙ le-leb (min l (g - 1)) t (omega arith) ∙ sym (le-leb l g m)
 
   marks-low : t < g - 1 → (f : List ℕ) → marksAt t (carried g f) ≡ marksAt t f

@@ -4,3 +4,5 @@ pub mod Totals
 pub mod Turns
 pub mod Walks
 pub mod Carrying
+pub mod Granting
+pub mod Confirming

@@ -1,13 +1,15 @@
 -- Levels and marks: at each threshold the levels of at most that are the marks, and a clause's turn is what the clause adds to them.
 --   apart-up-to        what is kept is apart from the pool's groups up to a number
+--   or-up-to           both together are the choice up to that number
 --   group-at           a group's level is at most the threshold exactly if the group is chosen there
 --   every-greatest     the greatest of some levels is so exactly if each is
 --   default-any        a level that is in the list, whatever is told of others
+--   length-marks       a mark for each level
 --   marked-at          a variable's level is so exactly if it has its mark
 --   clause-at          a clause's level is so exactly if it is in force there with its whole body marked
 --   turn-at, turns-at  a turn, and turns clause after clause, at a threshold
 --   goal-at, goal-le   the least level of the goals, at a threshold, and its bound
---   start-at           no level yet, at a threshold: no mark
+--   high-at            only levels of never and above, at a threshold: no mark
 -- Assumes nothing.
 use Prim.Native.Nat.{ℕ, zero, suc, _+_, _%_, _^_, _≤_, _<_, min, max}
 use mathlib.Core.Path.{_≡_, refl, sym, ap, _∙_}
@@ -19,6 +21,7 @@ use native.Mathlib.Omega.{arith}
 use lib.Pow.{pow-pos}
 use lib.ListN.{length, getD, set, replicate}
 use lib.Seq.{set-out, set-getD}
+use lib.Bits.{bitOr}
 use lib.Dec.{eqb, leb, leb·zero}
 use borrow.Author.Tests.{le-leb, lt-leb, leb-true, leb-false, eq-eqb, ne-eqb}
 use Rattle.meaning.specs.Book.{Clause}
@@ -27,7 +30,7 @@ use Rattle.meaning.specs.Consistent.{every, inForce}
 use Rattle.meaning.specs.Forced.{marked, put, mark, pass, broken, lowest}
 use Rattle.meaning.proofs.Choices.{digit-or, digit-high, chosen-core, chosen-group}
 use Rattle.meaning.proofs.Deciding.{broken-is, lowest-empty, lowest-first}
-use Rattle.rounds.proofs.Digits.{lt-or-ge, mod-low, digit-sum}
+use Rattle.rounds.proofs.Digits.{digit-either, digits-same, lt-or-ge, mod-low, digit-sum}
 use Rattle.book.specs.Bytes.{mostGroups}
 use Rattle.levels.specs.Levels.{never, upTo, groupLevel, levelOf, greatest, clauseLevel, lower, turn, turns, goalLevel, marksAt}
 
@@ -47,6 +50,11 @@ module _ (kept pool : ℕ) (A : Apart kept pool) (t : ℕ) (h : t ≤ mostGroups
       go : ((g < t) × (digit (pool % 2 ^ t) g ≡ digit pool g)) ⊎ ((t ≤ g) × (digit (pool % 2 ^ t) g ≡ 0)) → digit kept g + digit (pool % 2 ^ t) g ≤ 1
       go (inl w) = omega (arith, A g, w .1)
       go (inr w) = omega (arith, A g, w .1)
+
+  pub or-up-to : (y : ℕ) → y ≡ pool % 2 ^ t → bitOr kept y ≡ upTo kept pool t
+  or-up-to y e =
+      ap (bitOr kept) e
+      ∙ digits-same _ _ (λ g. omega (arith, digit-either kept (pool % 2 ^ t) g, digit-sum kept (pool % 2 ^ t) g apart-up-to, apart-up-to g))
 
   pub group-at : (g : ℕ) → chosen (upTo kept pool t) g ≡ leb (groupLevel kept pool g) t
   unfolding groupLevel
@@ -117,7 +125,7 @@ flag-is : (b : Bool) → eqb (cond b 1 0) 1 ≡ b
 flag-is true = refl
 flag-is false = refl
 
-length-marks : (t : ℕ) (f : List ℕ) → length (marksAt t f) ≡ length f
+pub length-marks : (t : ℕ) (f : List ℕ) → length (marksAt t f) ≡ length f
 unfolding marksAt
 length-marks t [] = refl
 length-marks t (l ∷ f) = ap suc (length-marks t f)
@@ -133,10 +141,12 @@ default-any [] i d e l = absurd (omega arith)
 default-any (m ∷ f) zero d e l = refl
 default-any (m ∷ f) (suc i) d e l = default-any f i d e (omega arith)
 
-pub start-at : (t n : ℕ) → t ≤ mostGroups → marksAt t (replicate n never) ≡ replicate n 0
+pub high-at : (t : ℕ) (f : List ℕ) → t ≤ mostGroups → ((i : ℕ) → i < length f → never ≤ getD f i 0) → marksAt t f ≡ replicate (length f) 0
 unfolding marksAt
-start-at t zero h = refl
-start-at t (suc n) h = ap (λ (b : Bool). cond b 1 0 ∷ marksAt t (replicate n never)) (lt-leb never t (omega arith)) ∙ ap (λ (z : List ℕ). 0 ∷ z) (start-at t n h)
+high-at t [] h k = refl
+high-at t (l ∷ f) h k =
+    let o : never ≤ l = k 0 (omega arith) in
+    ap (λ (b : Bool). cond b 1 0 ∷ marksAt t f) (lt-leb l t (omega arith)) ∙ ap (λ (z : List ℕ). 0 ∷ z) (high-at t f h (λ i j. k (suc i) (omega arith)))
 
 module _ (t : ℕ) (h : t ≤ mostGroups) where
   getD-marks : (f : List ℕ) (i : ℕ) → getD (marksAt t f) i 0 ≡ flag (getD f i never) t

@@ -1,13 +1,14 @@
 -- One turn of the functions on a clause.
 --   level-core, level-kept, level-other      the level of a group: the core, a kept group, one of the pool or another
 --   greatest-end, greatest-next      no number is left; w, the first number of the part t
+--   greatest-from          the greatest level from m on is the greater of m and of that from 0 on
 --   level-at               the level of a variable
 --   capped                 a level that reaches the cap
 --   clause-none, clause-some, turn-less      a clause without a head changes nothing; another makes its head's level the lower one
 --   goal-other, goal-own   the least level of the goals after a clause: with a head, and without
 --   fill-all               every level is filled
 -- Assumes nothing.
-use Prim.Native.Nat.{ℕ, zero, suc, _+_, _-_, _/_, _%_, _^_, _≤_, _<_, min, max}
+use Prim.Native.Nat.{ℕ, zero, suc, _+_, _-_, _≤_, _<_, min, max}
 use mathlib.Core.Path.{_≡_, refl, sym, ap, _∙_}
 use mathlib.Core.Logic.{_≢_}
 use mathlib.Core.List.{List, [], _∷_, _++_, append-nil}
@@ -65,6 +66,11 @@ greatest-ge : (l : ℕ → ℕ) (m : ℕ) (ws : List ℕ) → m ≤ greatest l m
 unfolding greatest
 greatest-ge l m [] = omega arith
 greatest-ge l m (w ∷ ws) = omega (arith, greatest-ge l (max m (l w)) ws)
+
+pub greatest-from : (l : ℕ → ℕ) (m : ℕ) (ws : List ℕ) → greatest l m ws ≡ max m (greatest l 0 ws)
+unfolding greatest
+greatest-from l m [] = omega arith
+greatest-from l m (w ∷ ws) = omega (arith, greatest-from l (max m (l w)) ws, greatest-from l (max 0 (l w)) ws)
 
 pub level-at : (f : List ℕ) (w : ℕ) → 1 ≤ w → w ≤ length f → getD f (w - 1) 0 ≡ levelOf f w
 unfolding levelOf

@@ -1,18 +1,20 @@
 -- Two walks over an accepted book: one in which each clause has its turn, and one for the least level of the goals; and what they come to.
---   here-turn, here-goal     the turn of the clause at hand, and its level as a goal
+--   same                     the clause at hand, as its parts spell it, is the one that stands there
+--   here-turn, here-goal     its turn, and its level as a goal
 --   Sweeping, sweeping-next, sweeping-end      the invariant of `sweep`, its next turn and its end
 --   Seeking, seeking-next, seeking-end      the invariant of `least_goal`, its next turn and its end
---   falling-start, falling-next      the invariant of `settle`: no level yet, and after a sweep
+--   high-start, falling-next      the invariant of `settle`: only levels of never and above, and after a sweep
+--   settling-long            there is a level for each variable
 --   settled                  a sweep that lowers no level leaves the settled levels
 --   goal-level               the least level of the goals by settled levels
 -- Assumes nothing.
-use Prim.Native.Nat.{ℕ, _+_, _-_, _<_}
+use Prim.Native.Nat.{ℕ, _+_, _-_, _≤_, _<_}
 use mathlib.Core.Path.{_≡_, refl, sym, ap, _∙_, subst}
 use mathlib.Core.Logic.{_⊎_, inl, inr}
 use mathlib.Core.Bool.{Bool, not, _||_}
 use mathlib.Core.List.{List, [], _∷_}
 use native.Mathlib.Omega.{arith}
-use lib.ListN.{length, take, drop, replicate}
+use lib.ListN.{length, getD, take, drop, replicate}
 use lib.Dec.{eqb, leb}
 use borrow.Author.Tests.{lt-leb}
 use Rattle.meaning.specs.Book.{Clause, Book}
@@ -25,7 +27,7 @@ use Rattle.book.specs.declared.Front.the-variants as Front·v
 use Rattle.book.proofs.Walk.{Walk, Turn, walk-over}
 use Rattle.marks.proofs.Walks.{here, partly-swept, settling-end}
 use Rattle.levels.specs.Levels.{never, upTo, turn, turns, goalLevel, total, marksAt, Settling, Settled, GoalLevel}
-use Rattle.levels.proofs.Thresholds.{turns-at, goal-at, goal-le, start-at}
+use Rattle.levels.proofs.Thresholds.{length-marks, turns-at, goal-at, goal-le, high-at}
 use Rattle.levels.proofs.Totals.{length-turn, turns-or}
 
 -- clauses one after the other
@@ -50,7 +52,7 @@ module _ (v g : ℕ) (r : List ℕ) (cs : List Clause) (from hd start n : ℕ) (
   pub here-turn : (kept pool : ℕ) (f : List ℕ) → turn kept pool (here v g r cs from hd start n t) f ≡ turn kept pool (t .now) f
   here-turn kept pool f = simp (t .groups, t .head, t .numbers)
 
-  same : here v g r cs from hd start n t ≡ t .now
+  pub same : here v g r cs from hd start n t ≡ t .now
   same = simp (t .groups, t .head, t .numbers)
 
   pub here-goal : (kept pool : ℕ) (f : List ℕ) (m : ℕ) → goalLevel kept pool f m (here v g r cs from hd start n t ∷ []) ≡ goalLevel kept pool f m (t .now ∷ [])
@@ -103,8 +105,12 @@ seeking-next v g kept pool all f r m from hd body n k t m′ e =
     }
 
 -- ---- sweeps to the end
-pub falling-start : (b : Book) (kept pool : ℕ) (f : List ℕ) → f ≡ replicate (b .variables) never → Settling b kept pool f
-falling-start b kept pool f e t h = subst (Partly b (upTo kept pool t)) (sym (ap (marksAt t) e ∙ start-at t (b .variables) h)) (partly-none b (upTo kept pool t))
+pub high-start : (b : Book) (kept pool : ℕ) (f : List ℕ) → length f ≡ b .variables → ((i : ℕ) → i < length f → never ≤ getD f i 0) → Settling b kept pool f
+high-start b kept pool f n k t h =
+    subst (Partly b (upTo kept pool t)) (sym (high-at t f h k ∙ ap (λ (v : ℕ). replicate v 0) n)) (partly-none b (upTo kept pool t))
+
+pub settling-long : (b : Book) (kept pool : ℕ) (f : List ℕ) → Settling b kept pool f → length f ≡ b .variables
+settling-long b kept pool f S = sym (length-marks 0 f) ∙ S 0 (omega arith) .length
 
 pub falling-next : (b : Book) (kept pool : ℕ) (f f′ : List ℕ) → Apart kept pool → Settling b kept pool f → f′ ≡ turns kept pool (b .clauses) f → Settling b kept pool f′
 falling-next b kept pool f f′ A S e t h = partly-swept b (upTo kept pool t) (marksAt t f) (marksAt t f′) (S t h) (ap (marksAt t) e ∙ turns-at kept pool A t h (b .clauses) f)

@@ -1,6 +1,7 @@
 -- Levels: the groups of a choice come one after the other, and of each variable it is told at which group it is forced. Some groups are kept, and
 -- there from the start; those of the pool come by their numbers, the lowest first.
 --   never                  the level of what no group brings: one more than the highest group there can be
+--   idle                   the level of a variable that is left aside
 --   upTo kept pool t       the choice of the kept groups and of the pool's groups up to number t
 --   groupLevel kept pool g      the level of group g: 0 for the core and a kept group, its number in the pool, and else never
 --   levelOf f v            the level of variable v by the list f, which has one for each variable
@@ -11,8 +12,14 @@
 --   turns kept pool cs f   ... clause after clause
 --   goalLevel kept pool f m cs  the least of m and of the levels of the goals among some clauses
 --   total f                the sum of the levels
+--   below m f h            the head h has a level below m; no head has one
+--   stands x m f c         a clause lets the levels stand below m where the choice x holds: it is not in force, or its head has a level below m, or one of its body has
+--                          none
+--   closedBelow x m f cs   ... and so does each of some clauses
+--   BrokenBy kept pool f cs r       one of some clauses is a goal whose level is at most r
 --   carriedTo g l, carried g f      levels after a pass that ended at group g, for the next, in which g is kept and only the pool's groups below it are
---                          left: what g brought is there with the last of those; what came later is forgotten
+--                          left: what g brought is there with the last of those; what came later is forgotten; what is left aside stays so
+--   grantedTo l, granted f      levels with what is left aside taken for granted: there from the start
 --   marksAt t f            the marks at a threshold: 1 for a level of at most t, and else 0
 -- Of a book, at each threshold:
 --   Settling b kept pool f      only variables that the choice up to there forces have so low a level
@@ -22,17 +29,21 @@
 use Prim.Native.Nat.{ℕ, zero, suc, _+_, _-_, _%_, _^_, _≤_, min, max}
 use mathlib.Core.Path.{_≡_}
 use mathlib.Core.List.{List, [], _∷_}
-use mathlib.Core.Bool.{cond}
-use lib.ListN.{getD, set}
-use lib.Dec.{eqb, leb}
+use mathlib.Core.Bool.{Bool, true, false, cond, not, _&&_, _||_}
+use lib.ListN.{getD, set, drop}
+use lib.Dec.{eqb, leb, ltb}
 use Rattle.meaning.specs.Book.{Clause, Book}
 use Rattle.meaning.specs.Choice.{digit}
+use Rattle.meaning.specs.Consistent.{inForce}
 use Rattle.meaning.specs.Forced.{forcedIn, inconsistent}
 use Rattle.meaning.specs.Marks.{Partly}
 use Rattle.book.specs.Bytes.{mostGroups}
 
 abbrev pub never : ℕ
 never = mostGroups + 1
+
+abbrev pub idle : ℕ
+idle = never + 1
 
 abbrev pub upTo : ℕ → ℕ → ℕ → ℕ
 upTo kept pool t = kept + pool % 2 ^ t
@@ -71,12 +82,38 @@ unfoldable pub total : List ℕ → ℕ
 total [] = 0
 total (l ∷ f) = l + total f
 
+unfoldable pub below : ℕ → List ℕ → ℕ → Bool
+below m f zero = false
+below m f (suc h) = ltb (getD f h never) m
+
+abbrev pub stands : ℕ → ℕ → List ℕ → Clause → Bool
+stands x m f c = not (inForce x c) || (below m f (c .head) || leb m (greatest (levelOf f) 0 (c .body)))
+
+unfoldable pub closedBelow : ℕ → ℕ → List ℕ → List Clause → Bool
+closedBelow x m f [] = true
+closedBelow x m f (c ∷ cs) = stands x m f c && closedBelow x m f cs
+
+pub record BrokenBy (kept pool : ℕ) (f : List ℕ) (cs : List Clause) (r : ℕ) : Type 0 where
+  pub place : ℕ
+  pub goal : Clause
+  pub later : List Clause
+  pub here : drop place cs ≡ goal ∷ later
+  pub headless : goal .head ≡ 0
+  pub low : clauseLevel kept pool f goal ≤ r
+
 abbrev pub carriedTo : ℕ → ℕ → ℕ
-carriedTo g l = cond (leb l g) (min l (g - 1)) never
+carriedTo g l = cond (leb l g) (min l (g - 1)) (max never l)
 
 unfoldable pub carried : ℕ → List ℕ → List ℕ
 carried g [] = []
 carried g (l ∷ f) = carriedTo g l ∷ carried g f
+
+abbrev pub grantedTo : ℕ → ℕ
+grantedTo l = cond (leb l never) l 0
+
+unfoldable pub granted : List ℕ → List ℕ
+granted [] = []
+granted (l ∷ f) = grantedTo l ∷ granted f
 
 unfoldable pub marksAt : ℕ → List ℕ → List ℕ
 marksAt t [] = []

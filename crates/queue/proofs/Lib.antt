@@ -1,5 +1,2 @@
 -- The laws that the proofs cite.
-mod Stores
-mod Steps
-mod Places
-mod Laying
+pub mod Turns

@@ -1,3 +1,2 @@
--- What the working space holds, and what forcing answers.
-pub mod Space
-pub mod Forcing
+-- Turns of clauses.
+pub mod Turns

@@ -1,103 +1,199 @@
-// The variables that a choice forces, with a queue. A clause in force waits at the first variable of its body that has no mark. A variable that gets its mark
-// joins the queue; when it is taken from there, each clause that waits at it moves on to its next variable without a mark, or marks its head. Nothing here has
-// to find all marks: sweeps over the book follow, and complete them if some are missing. So links and queue are only tested before they are used; a space that
-// was cleared never fails these tests.
+// Propagation on levels, by the lists of clauses. A clause that is not due waits at a group or a variable of its own whose level keeps it from lowering its head
+// any further. Clauses that are due have their turns, those of the lowest level first; where the level of a head falls, the clauses that wait at it become due.
+// A walk over the book confirms the level of the goals, and sweeps complete the levels where it does not.
 ghost use mathlib.Core.Path.{_≡_};
 ghost use mathlib.Core.Bool.{true};
 ghost use Prim.Native.Nat.{_≤_, _<_};
 ghost use lib.ListN.{length, take};
 ghost use Rattle.field.specs.Words.{words, within};
 ghost use Rattle.meaning.specs.Book.{clauseFrom};
-ghost use Rattle.meaning.specs.Marks.{Partly};
-ghost use Rattle.book.specs.Walk.{bookOf, IsBook};
-ghost use Rattle.queue.specs.Space.{Prepared, Kept, Tabled, Aside, Stepped};
-ghost use Rattle.queue.specs.Forcing.{Forcing};
+ghost use Rattle.meaning.specs.Choice.{Apart};
+ghost use Rattle.book.specs.Bytes.{mostGroups};
+ghost use Rattle.book.specs.Walk.{bookOf};
+ghost use Rattle.levels.specs.Levels.{BrokenBy, GoalLevel};
+ghost use Rattle.lists.specs.Space.{Room, Aside};
+ghost use Rattle.table.specs.Table.{Sized, Prepared, Kept};
+ghost use Rattle.queue.specs.Turns.{Stepped, Carrying};
 use book::Front;
+use levels::NEVER;
 
-// Where things lie in the working space. Marks come first, one word a variable. A place is where a clause starts in the book. A link is the number of the next
-// clause that waits at the same variable, 0 if there is none; a first link is that of the first.
-const PLACES: usize = 1024;
+// How many turns there are at most in a run; no book needs as many.
+const MOST_TURNS: u32 = 67108864;
 
-const LINKS: usize = 3072;
-
-const FIRST_LINKS: usize = 5120;
-
-const QUEUE: usize = 6144;
-
-const QUEUE_LENGTH: usize = 7168;
-
-// A clause, counted from 0, waits at a variable.
-fn wait(clause: u16, variable: u16, work: &mut [u16])
-    requires { ⌜ (clause < 2048) × (1 ≤ variable) × (variable ≤ 1024) × (8192 ≤ length (now work)) ⌝ }
-    ensures { λ _. ⌜ Aside (now (work .entry)) (now (work .exit)) ⌝ }
+// The first of some groups whose level is not below a level; NEVER if there is none.
+fn holding_group(groups: &[u8], kept: u32, pool: u32, level: u16) -> u16
+    requires { ⌜ within 0 mostGroups (words (now groups)) ≡ true ⌝ }
 {
-    let first = FIRST_LINKS + (variable as usize - 1);
-    let link = LINKS + clause as usize;
-    let next = work[first];
-    work[link] = next;
-    work[first] = clause + 1;
+    let mut t = groups;
+    while t.len() >= 2 {
+        let g = field::word_at(t, 0);
+        if level <= levels::group_level(g, kept, pool) {
+            return g;
+        }
+        t = &t[2..];
+    }
+    NEVER
 }
 
-// A variable that got its mark joins the queue.
-fn join(variable: u16, work: &mut [u16])
-    requires { ⌜ 8192 ≤ length (now work) ⌝ }
-    ensures { λ _. ⌜ Aside (now (work .entry)) (now (work .exit)) ⌝ }
+// The first variable of a body whose level is not below a level; 0 if there is none.
+fn holding_variable(body: &[u8], level: u16, levels: &[u16]) -> u16
+    requires { ⌜ within 1 (length (now levels)) (words (now body)) ≡ true ⌝ }
+    ensures { λ r. ⌜ r ≤ length (now (levels .entry)) ⌝ }
 {
-    let queued = work[QUEUE_LENGTH];
-    if book::MOST_VARIABLES <= queued {
+    let mut t = body;
+    while t.len() >= 2 {
+        let w = field::word_at(t, 0);
+        let i = w as usize - 1;
+        if level <= levels[i] {
+            return w;
+        }
+        t = &t[2..];
+    }
+    0
+}
+
+// A clause whose head has a level, or is a goal with that level, waits at one of its groups or variables whose level is not below it. At level 0 there is
+// nothing to wait for.
+fn wait(
+    clause: u16,
+    groups: &[u8],
+    body: &[u8],
+    kept: u32,
+    pool: u32,
+    level: u16,
+    variables: u16,
+    clauses: u16,
+    work: &mut [u16],
+)
+    requires { ⌜ (clause < clauses) × (within 0 mostGroups (words (now groups)) ≡ true) × (within 1 variables (words (now body)) ≡ true)
+        × Room variables clauses (now work) ⌝ }
+    ensures { λ _. ⌜ Aside variables clauses (now (work .entry)) (now (work .exit)) ⌝ }
+{
+    if level == 0 {
         return;
     }
-    let end = QUEUE + queued as usize;
-    work[end] = variable;
-    work[QUEUE_LENGTH] = queued + 1;
+    let group = holding_group(groups, kept, pool, level);
+    if group < NEVER {
+        let list = lists::at_group(group, variables, clauses);
+        lists::push(clause, list, variables, clauses, work);
+        return;
+    }
+    let v = variables as usize;
+    let variable = holding_variable(body, level, &work[..v]);
+    if variable == 0 {
+        return;
+    }
+    let list = lists::at_variable(variable, variables, clauses);
+    lists::push(clause, list, variables, clauses, work);
 }
 
-// A clause marks its head, or waits. Goals, clauses with an old mark at their head and clauses that are not in force do neither.
+// The turn of a goal.
+fn goal_step(
+    clause: u16,
+    groups: &[u8],
+    body: &[u8],
+    kept: u32,
+    pool: u32,
+    variables: u16,
+    clauses: u16,
+    work: &mut [u16],
+)
+    requires { ⌜ (clause < clauses) × (within 0 mostGroups (words (now groups)) ≡ true) × (within 1 variables (words (now body)) ≡ true)
+        × Room variables clauses (now work) ⌝ }
+    ensures { λ _. ⌜ Aside variables clauses (now (work .entry)) (now (work .exit)) ⌝ }
+{
+    let old = lists::least(variables, clauses, work);
+    let v = variables as usize;
+    let level = levels::clause_level(groups, body, kept, pool, old, &work[..v]);
+    lists::note_goal(clause, level, variables, clauses, work);
+    wait(
+        clause,
+        groups,
+        body,
+        kept,
+        pool,
+        level,
+        variables,
+        clauses,
+        work,
+    );
+}
+
+// The turn of a clause. The level to which that of its head fell; NEVER if it did not fall.
 fn step(
     clause: u16,
     groups: &[u8],
     head: u16,
     body: &[u8],
-    choice: u32,
+    kept: u32,
+    pool: u32,
     variables: u16,
+    clauses: u16,
     work: &mut [u16],
-)
-    requires { ⌜ (clause < 2048) × (within 0 32 (words (now groups)) ≡ true) × (head ≤ variables) × (within 1 variables (words (now body)) ≡ true)
-        × (variables ≤ 1024) × (8192 ≤ length (now work)) ⌝ }
-    ensures { λ _. ⌜ Stepped choice variables (clauseFrom (words (now (groups .entry))) head (words (now (body .entry))))
+) -> u16
+    requires { ⌜ (clause < clauses) × (within 0 mostGroups (words (now groups)) ≡ true) × (head ≤ variables)
+        × (within 1 variables (words (now body)) ≡ true) × Room variables clauses (now work) ⌝ }
+    ensures { λ _. ⌜ Stepped kept pool variables clauses (clauseFrom (words (now (groups .entry))) head (words (now (body .entry))))
         (now (work .entry)) (now (work .exit)) ⌝ }
 {
     if head == 0 {
-        return;
+        goal_step(clause, groups, body, kept, pool, variables, clauses, work);
+        return NEVER;
     }
-    let mark = head as usize - 1;
-    if work[mark] == 1 {
-        return;
+    let h = head as usize - 1;
+    if work[h] == 0 {
+        return NEVER;
     }
-    if !marks::in_force(groups, choice) {
-        return;
+    let v = variables as usize;
+    let fell = levels::turn(groups, head, body, kept, pool, &mut work[..v]);
+    let level = work[h];
+    if fell == 0 {
+        wait(
+            clause,
+            groups,
+            body,
+            kept,
+            pool,
+            level,
+            variables,
+            clauses,
+            work,
+        );
+        return NEVER;
     }
-    let front = variables as usize;
-    let variable = marks::first_unmarked(body, &work[..front]);
-    if variable != 0 {
-        wait(clause, variable, work);
-        return;
-    }
-    work[mark] = 1;
-    join(head, work);
+    lists::wake(head, level, variables, clauses, work);
+    wait(
+        clause,
+        groups,
+        body,
+        kept,
+        pool,
+        level,
+        variables,
+        clauses,
+        work,
+    );
+    level
 }
 
-// A clause is visited at its place.
-fn visit(book: &[u8], choice: u32, variables: u16, clause: u16, work: &mut [u16])
-    requires { ⌜ IsBook (now book) × (variables ≡ bookOf (now book) .variables)
-        × (clause < length (bookOf (now book) .clauses)) × Prepared (now book) choice (now work) ⌝ }
-    ensures { λ _. ⌜ Kept (now (book .entry)) choice (now (work .entry)) (now (work .exit)) ⌝ }
+// A clause has its turn, at its place. The level to which that of its head fell; NEVER if it did not fall.
+fn visit(
+    book: &[u8],
+    kept: u32,
+    pool: u32,
+    variables: u16,
+    clauses: u16,
+    clause: u16,
+    work: &mut [u16],
+) -> u16
+    requires { ⌜ Sized (now book) variables clauses × Apart kept pool × (clause < clauses) × Prepared (now book) kept pool (now work) ⌝ }
+    ensures { λ _. ⌜ Kept (now (book .entry)) kept pool (now (work .entry)) (now (work .exit)) ⌝ }
 {
-    let entry = PLACES + clause as usize;
+    let entry = variables as usize + clause as usize;
     let place = work[entry] as usize;
     let rest = &book[place..];
     match book::front_of(rest) {
-        Front::End => {}
+        Front::End => NEVER,
         Front::Clause {
             groups,
             head,
@@ -110,133 +206,174 @@ fn visit(book: &[u8], choice: u32, variables: u16, clause: u16, work: &mut [u16]
                 &rest[groups..last],
                 head,
                 &rest[body..size],
-                choice,
+                kept,
+                pool,
                 variables,
+                clauses,
                 work,
-            );
+            )
         }
     }
 }
 
-// Every clause is visited once; `count` is how many there are.
-fn visit_all(book: &[u8], choice: u32, variables: u16, count: u16, work: &mut [u16])
-    requires { ⌜ IsBook (now book) × (variables ≡ bookOf (now book) .variables)
-        × (count ≤ length (bookOf (now book) .clauses)) × Prepared (now book) choice (now work) ⌝ }
-    ensures { λ _. ⌜ Kept (now (book .entry)) choice (now (work .entry)) (now (work .exit)) ⌝ }
+// A clause that is due at a level has its turn. The level to go on with: a lower one to which a head fell, and the next where no clause is due.
+fn advance(
+    book: &[u8],
+    kept: u32,
+    pool: u32,
+    level: u16,
+    variables: u16,
+    clauses: u16,
+    work: &mut [u16],
+) -> u16
+    requires { ⌜ Sized (now book) variables clauses × Apart kept pool × (level ≤ mostGroups) × Prepared (now book) kept pool (now work) ⌝ }
+    ensures { λ _. ⌜ Kept (now (book .entry)) kept pool (now (work .entry)) (now (work .exit)) ⌝ }
 {
-    let mut clause: u16 = 0;
-    while clause < count {
-        visit(book, choice, variables, clause, work);
-        clause += 1;
+    let list = lists::due(level, variables, clauses);
+    let next = lists::pop(list, variables, clauses, work);
+    if next == 0 {
+        return level + 1;
     }
+    let fell = visit(book, kept, pool, variables, clauses, next - 1, work);
+    if fell < level {
+        return fell;
+    }
+    level
 }
 
-// The clauses of a list of links are visited. No clause waits twice, so there are at most `count`.
-fn visit_list(book: &[u8], choice: u32, variables: u16, count: u16, first: u16, work: &mut [u16])
-    requires { ⌜ IsBook (now book) × (variables ≡ bookOf (now book) .variables)
-        × (count ≤ length (bookOf (now book) .clauses)) × Prepared (now book) choice (now work) ⌝ }
-    ensures { λ _. ⌜ Kept (now (book .entry)) choice (now (work .entry)) (now (work .exit)) ⌝ }
+// The clauses that are due have their turns: all of them, or up to the least level of the goals.
+pub fn run(
+    book: &[u8],
+    kept: u32,
+    pool: u32,
+    whole: bool,
+    variables: u16,
+    clauses: u16,
+    work: &mut [u16],
+)
+    requires { ⌜ Sized (now book) variables clauses × Apart kept pool × Prepared (now book) kept pool (now work) ⌝ }
+    ensures { λ _. ⌜ Kept (now (book .entry)) kept pool (now (work .entry)) (now (work .exit)) ⌝ }
 {
-    let mut next = first;
-    let mut left = count;
+    let mut level: u16 = 0;
+    let mut left = MOST_TURNS;
     while 0 < left {
-        if next == 0 {
+        if NEVER <= level {
             return;
         }
-        if count < next {
+        if lists::is_enough(whole, level, variables, clauses, work) {
             return;
         }
-        let clause = next - 1;
-        let link = LINKS + clause as usize;
-        // Before the visit, which may set the link anew.
-        next = work[link];
-        visit(book, choice, variables, clause, work);
+        level = advance(book, kept, pool, level, variables, clauses, work);
         left -= 1;
     }
 }
 
-// The clauses that wait at a variable are visited, and wait there no more.
-fn visit_waiting(
+// After a pass that ended at a group, which is kept: the working space for the next pass.
+pub fn keep(group: u16, variables: u16, clauses: u16, work: &mut [u16])
+    requires { ⌜ (1 ≤ group) × (group ≤ mostGroups) × Room variables clauses (now work) ⌝ }
+    ensures { λ _. ⌜ Carrying group variables clauses (now (work .entry)) (now (work .exit)) ⌝ }
+{
+    let v = variables as usize;
+    levels::carry(group, &mut work[..v]);
+    lists::lower_goal(group, variables, clauses, work);
+    lists::keep_lists(group, variables, clauses, work);
+}
+
+// Whether the goal that is remembered has a level of at most this.
+fn breaks(
     book: &[u8],
-    choice: u32,
+    kept: u32,
+    pool: u32,
+    level: u16,
     variables: u16,
-    count: u16,
-    variable: u16,
+    clauses: u16,
+    work: &[u16],
+) -> bool
+    requires { ⌜ Sized (now book) variables clauses × (level ≤ mostGroups) × Prepared (now book) kept pool (now work) ⌝ }
+    ensures { λ r. ⌜ (r ≡ true → BrokenBy kept pool (take variables (now (work .entry))) (bookOf (now (book .entry)) .clauses) level) ⌝ }
+{
+    let clause = lists::goal(variables, clauses, work);
+    if clauses <= clause {
+        return false;
+    }
+    let entry = variables as usize + clause as usize;
+    let place = work[entry] as usize;
+    let rest = &book[place..];
+    match book::front_of(rest) {
+        Front::End => false,
+        Front::Clause {
+            groups,
+            head,
+            body,
+            size,
+        } => {
+            if head != 0 {
+                return false;
+            }
+            let last = body - 2;
+            let v = variables as usize;
+            levels::clause_level(
+                &rest[groups..last],
+                &rest[body..size],
+                kept,
+                pool,
+                NEVER,
+                &work[..v],
+            )
+                <= level
+        }
+    }
+}
+
+// Whether a level is confirmed as that of the goals: a goal has it, and every clause lets the levels below it stand. None need have NEVER, and there are no
+// levels below 0.
+fn is_confirmed(
+    book: &[u8],
+    kept: u32,
+    pool: u32,
+    level: u16,
+    variables: u16,
+    clauses: u16,
+    work: &[u16],
+) -> bool
+    requires { ⌜ Sized (now book) variables clauses × Apart kept pool × Prepared (now book) kept pool (now work) ⌝ }
+    ensures { λ r. ⌜ (r ≡ true → GoalLevel (bookOf (now (book .entry))) kept pool level) ⌝ }
+{
+    if NEVER < level {
+        return false;
+    }
+    if level < NEVER {
+        if !breaks(book, kept, pool, level, variables, clauses, work) {
+            return false;
+        }
+    }
+    if level == 0 {
+        return true;
+    }
+    let v = variables as usize;
+    let choice = levels::choice_below(kept, pool, level);
+    levels::is_closed(book, choice, level, &work[..v])
+}
+
+// The group of the pool at which the kept groups and those of the pool up to it break a goal; 0 where the kept groups do so, and NEVER where all together do
+// not. The run goes on to the end, as the passes after the first ask, or ends where the goal's level is known.
+pub fn goal_level(
+    book: &[u8],
+    kept: u32,
+    pool: u32,
+    whole: bool,
+    variables: u16,
+    clauses: u16,
     work: &mut [u16],
-)
-    requires { ⌜ IsBook (now book) × (variables ≡ bookOf (now book) .variables)
-        × (count ≤ length (bookOf (now book) .clauses)) × Prepared (now book) choice (now work) ⌝ }
-    ensures { λ _. ⌜ Kept (now (book .entry)) choice (now (work .entry)) (now (work .exit)) ⌝ }
+) -> u16
+    requires { ⌜ Sized (now book) variables clauses × Apart kept pool × Prepared (now book) kept pool (now work) ⌝ }
+    ensures { λ r. ⌜ GoalLevel (bookOf (now (book .entry))) kept pool r × Kept (now (book .entry)) kept pool (now (work .entry)) (now (work .exit)) ⌝ }
 {
-    if variable == 0 {
-        return;
+    run(book, kept, pool, whole, variables, clauses, work);
+    let level = lists::least(variables, clauses, work);
+    if is_confirmed(book, kept, pool, level, variables, clauses, work) {
+        return level;
     }
-    if book::MOST_VARIABLES < variable {
-        return;
-    }
-    let first = FIRST_LINKS + (variable as usize - 1);
-    let waiting = work[first];
-    work[first] = 0;
-    visit_list(book, choice, variables, count, waiting, work);
-}
-
-// The queue is worked off.
-fn run_queue(book: &[u8], choice: u32, variables: u16, count: u16, work: &mut [u16])
-    requires { ⌜ IsBook (now book) × (variables ≡ bookOf (now book) .variables)
-        × (count ≤ length (bookOf (now book) .clauses)) × Prepared (now book) choice (now work) ⌝ }
-    ensures { λ _. ⌜ Kept (now (book .entry)) choice (now (work .entry)) (now (work .exit)) ⌝ }
-{
-    let mut taken: u16 = 0;
-    while taken < book::MOST_VARIABLES {
-        if work[QUEUE_LENGTH] <= taken {
-            return;
-        }
-        let front = QUEUE + taken as usize;
-        let variable = work[front];
-        visit_waiting(book, choice, variables, count, variable, work);
-        taken += 1;
-    }
-}
-
-// The table of places is laid. How many clauses there are.
-fn lay(book: &[u8], work: &mut [u16]) -> u16
-    requires { ⌜ IsBook (now book) × (8192 ≤ length (now work)) ⌝ }
-    ensures { λ r. ⌜ (r ≡ length (bookOf (now (book .entry)) .clauses)) × Tabled (now (book .entry)) (now (work .entry)) (now (work .exit)) ⌝ }
-{
-    let mut rest = &book[7..];
-    let mut place: usize = 7;
-    let mut count: u16 = 0;
-    loop {
-        match book::front_of(rest) {
-            Front::End => {
-                return count;
-            }
-            Front::Clause {
-                groups: _,
-                head: _,
-                body: _,
-                size,
-            } => {
-                let entry = PLACES + count as usize;
-                work[entry] = place as u16;
-                place += size;
-                count += 1;
-                rest = &rest[size..];
-            }
-        }
-    }
-}
-
-// The front of the working space, one word a variable, comes with marks of forced variables only and leaves with all of them. The words between
-// those marks and 8,192 may hold anything; zeros are best, since what is left there from before may cost time.
-pub fn force(book: &[u8], choice: u32, variables: u16, work: &mut [u16])
-    requires { ⌜ IsBook (now book) × (variables ≡ bookOf (now book) .variables)
-        × (8192 ≤ length (now work)) × Partly (bookOf (now book)) choice (take variables (now work)) ⌝ }
-    ensures { λ _. ⌜ Forcing (now (book .entry)) choice (now (work .entry)) (now (work .exit)) ⌝ }
-{
-    let count = lay(book, work);
-    visit_all(book, choice, variables, count, work);
-    run_queue(book, choice, variables, count, work);
-    let front = variables as usize;
-    marks::settle(book, choice, &mut work[..front]);
+    let v = variables as usize;
+    levels::goal_level(book, kept, pool, &mut work[..v])
 }

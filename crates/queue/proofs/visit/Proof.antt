@@ -5,34 +5,36 @@ use mathlib.Core.Path.{sym, _∙_}
 use native.Mathlib.Omega.{arith}
 use denote.Ref.{now}
 use lib.ListN.{length, getD, take, drop}
+use Rattle.book.specs.Bytes.{mostGroups}
 use Rattle.book.specs.Walk.{bookOf}
 use Rattle.book.proofs.Walk.{Turn, walk-on, well-formed}
 use Rattle.marks.proofs.Walks.{turn-ready}
-use Rattle.queue.specs.Space.{Placed}
-use Rattle.queue.proofs.Stores.{kept-none}
-use Rattle.queue.proofs.Places.{place-inside, place-walk, kept-turn}
+use Rattle.table.specs.Table.{Placed}
+use Rattle.table.proofs.Stores.{kept-none, small, room, body-within}
+use Rattle.table.proofs.Places.{place-of, place-inside, place-walk}
+use Rattle.queue.proofs.Turns.{kept-turn}
 use borrow.Author.Needs.{needs}
 use Rattle.queue.proofs.visit.Statement.{statement}
 use Rattle.queue.proofs.visit.Tie as tie
 
 -- the clause's place
-place : (c : tie.Start) → Placed (now (c .args .book)) (getD (now (c .args .work)) (1024 + c .args .clause) 0) (c .args .clause)
-place c = c .pre .3 .places _ (c .pre .2)
+place : (c : tie.Start) → Placed (now (c .args .book)) (getD (now (c .args .work)) (c .args .variables + c .args .clause) 0) (c .args .clause)
+place c = place-of _ _ _ (c .pre .0) _ _ _ (c .pre .3) _ (c .pre .2)
 
 -- the clause there
 turn : (c : tie.After-groups)
     → let at = c .before .before .before .before .before .before .before .args in
     let s = now (at .book) in
-    let k = getD (now (at .work)) (1024 + at .clause) 0 in
+    let k = getD (now (at .work)) (at .variables + at .clause) 0 in
     let d = c .groups .given .0 in
     Turn (bookOf s .variables) (bookOf s .groups) (take (length s - k) (drop k s)) (drop (at .clause) (bookOf s .clauses)) (d .0) (d .1 .0) (d .1 .1 .0) (d .1 .1 .1 .0)
-turn c = walk-on _ _ _ _ _ _ _ _ (place-walk _ (c .before .before .before .before .before .before .before .pre .0) _ (c .before .before .before .before .before .before .before .args .clause) (place (c .before .before .before .before .before .before .before))) (sym (c .before .before .front-of .ensures) ∙ c .groups .given .1)
+turn c = walk-on _ _ _ _ _ _ _ _ (place-walk _ (c .before .before .before .before .before .before .before .pre .0 .book) _ (c .before .before .before .before .before .before .before .args .clause) (place (c .before .before .before .before .before .before .before))) (sym (c .before .before .front-of .ensures) ∙ c .groups .given .1)
 
 slice-read-place : tie.Need-slice-read-place
-slice-read-place c = let p = c .before .before .before .pre in omega (arith, p .2, p .3 .room, well-formed _ (p .0) .clauses)
+slice-read-place c = let k = small _ _ _ (c .before .before .before .pre .0) in omega (arith, c .before .before .before .pre .2, c .before .before .before .pre .3 .room, k .variables, k .clauses)
 
 cast-place : tie.Need-cast-place
-cast-place c = omega (arith, c .slice-known2 .given (1024 + c .before .before .before .args .clause))
+cast-place c = omega (arith, c .slice-known2 .given (c .before .before .before .args .variables + c .before .before .before .args .clause))
 
 sub-rest : tie.Need-sub-rest
 sub-rest c = place-inside _ _ (c .before .before .before .args .clause) (place (c .before .before .before))
@@ -64,20 +66,19 @@ part-step-end-2 c = turn (c .before .before) .fits
 step-requires : tie.Need-step-requires
 step-requires c κs =
     let p = c .before .before .before .before .before .before .before .before .before .before .before .pre in
-    let good = well-formed _ (p .0) in
-    let k = turn-ready _ _ _ _ _ _ _ _ (turn (c .before .before .before .before)) 32 (good .groups) in
-    (omega (arith, p .2, good .clauses), k .groups, omega (arith, k .head, p .1), rw (p .1) (k .body), omega (arith, p .1, good .variables), p .3 .room)
+    let k = turn-ready _ _ _ _ _ _ _ _ (turn (c .before .before .before .before)) mostGroups (well-formed _ (p .0 .book) .groups) in
+    (p .2, k .groups, omega (arith, k .head, p .0 .variables), body-within _ _ _ (p .0) _ (k .body), room _ _ _ (p .0) _ (p .3 .room))
 
 returns : tie.Need-returns
-returns c = kept-none _ _ _ (c .before .before .before .before .before .before .before .pre .3)
+returns c = kept-none _ _ _ _ (c .before .before .before .before .before .before .before .pre .3)
 
 same-length : tie.Need-same-length
-same-length c = c .before .before .step .ensures .long
+same-length c = c .before .before .step .ensures .beside .long
 
 returns-2 : tie.Need-returns-2
 returns-2 c =
     let p = c .before .before .before .before .before .before .before .before .before .before .before .before .before .before .pre in
-    kept-turn _ _ _ _ _ _ (c .before .before .before .before .before .before .before .before .before .before .before .before .before .before .args .clause) _ _ _ _ (p .0) (p .1) (p .3) (turn (c .before .before .before .before .before .before .before)) (c .before .before .step .ensures)
+    kept-turn _ _ _ (c .before .before .before .before .before .before .before .before .before .before .before .before .before .before .args .clause) _ _ _ _ _ (turn (c .before .before .before .before .before .before .before)) _ _ _ _ (p .0) (p .1) (p .3) (c .before .before .step .ensures)
 
 pub visit-spec : {M : Type 1} → statement M
 visit-spec =

@@ -1,31 +1,37 @@
--- `queue::wait` meets its contract: both stores are behind the table of places.
+-- `queue::wait` meets its contract: a variable of the body is one of the book's.
 -- Assumes nothing.
+use mathlib.Core.Path.{sym}
 use native.Mathlib.Omega.{arith}
-use lib.ListN.{length-set}
-use Rattle.queue.proofs.Stores.{aside-none, aside-set}
+use Rattle.lists.proofs.Stores.{front-long, front-within}
 use borrow.Author.Needs.{needs}
 use Rattle.queue.proofs.wait.Statement.{statement}
 use Rattle.queue.proofs.wait.Tie as tie
 
-slice-write-work-2 : tie.Need-slice-write-work-2
-slice-write-work-2 c = simp length-set (omega (arith, c .before .pre))
+slice-aggregate-holding-variable : tie.Need-slice-aggregate-holding-variable
+slice-aggregate-holding-variable c = sym (front-long _ _ _ (c .before .before .before .before .before .before .before .pre .3))
 
-returns : tie.Need-returns
-returns c = aside-set _ _ _ _ (omega arith) (omega (arith, c .before .pre)) (aside-set _ _ _ _ (omega arith) (omega (arith, c .before .pre)) (aside-none _))
+holding-variable-requires : tie.Need-holding-variable-requires
+holding-variable-requires c κs = front-within _ _ _ _ (c .before .before .before .before .before .before .before .pre .3) (c .before .before .before .before .before .before .before .pre .2)
+
+at-variable-requires : tie.Need-at-variable-requires
+at-variable-requires c κs = (omega (arith, c .if3 .left), omega (arith, c .before .holding-variable .ensures, front-long _ _ _ (c .before .before .before .before .before .before .before .before .before .pre .3)), c .before .before .before .before .before .before .before .before .before .pre .3 .small)
 
 pub wait-spec : {M : Type 1} → statement M
 wait-spec =
     tie.close
     (tie.spec
     (λ c. search needs)
+    (λ c κs. search needs)
+    (λ c κs. search needs)
+    (λ c κs. search needs)
     (λ c. search needs)
     (λ c. search needs)
     (λ c. search needs)
+    slice-aggregate-holding-variable
+    holding-variable-requires
     (λ c. search needs)
     (λ c. search needs)
+    at-variable-requires
+    (λ c κs. search needs)
     (λ c. search needs)
-    (λ c. search needs)
-    (λ c. search needs)
-    slice-write-work-2
-    (λ c. search needs)
-    returns)
+    (λ c. search needs))

@@ -1,0 +1,2 @@
+-- What forcing answers.
+pub mod Forcing

@@ -1,0 +1,2 @@
+-- What the working space holds.
+pub mod Space

@@ -1,0 +1,4 @@
+-- The laws that the proofs cite.
+pub mod Stores
+pub mod Places
+pub mod Laying

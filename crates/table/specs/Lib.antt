@@ -1,0 +1,2 @@
+-- The table of a book's clauses.
+pub mod Table

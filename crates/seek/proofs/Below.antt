@@ -4,13 +4,14 @@
 --   at-seed, none-seed              the largest choice that fits is the seed; there is none where no choice fits
 --   above-digit, above-low          the groups above g
 --   reason-in, reason-out           what a group rests on along the last seed
---   same-top                        a choice that contains the seed's groups above g, and is less, agrees with it there
---   held-fits                       its groups above g, with all below g, are a choice of the groups
+--   same-top, rests-out             a choice that contains the seed's groups above g, and is less, agrees with it there; it lacks g where the seed does
+--   held-fits                       its groups above g, with g, are a choice of the groups
 --   along-parts, along-reasons      the path along the last seed down to a group of it
+--   whole-parts, whole-reasons      the path along all of the last seed
 --   clear-start, ruled-start, clear-end      no choice agrees with the last seed, or contains it; where none agrees from the last group on, none fits
 --   clear-other, clear-tried        from g to the next group: g is not in the last seed; no choice that contains the groups above g fits
 --   found-below                     a choice found below is the largest that fits
---   along-more, along-next, along-after, tries-ruled, tries-sought      the same, as code goes
+--   along-more, along-next, along-same, along-after, tries-ruled, tries-sought      the same, as code goes
 -- Assumes nothing.
 use Prim.Native.Nat.{ℕ, suc, _+_, _-_, _*_, _/_, _%_, _^_, _≤_, _<_}
 use mathlib.Core.Path.{_≡_, sym, ap, _∙_, subst}
@@ -33,7 +34,8 @@ use Rattle.rounds.specs.Records.{Record, allowed}
 use Rattle.rounds.specs.Rounds.{seed}
 use Rattle.rounds.proofs.Digits.{lt-or-ge, digit-in, digit-complement, digit-low, digit-above, digit-over, over-step, over-lt, over-le, over-less, base-inside, none-inside, inside-le, inside-refl, inside-trans, digit-pow, digit-pow-other, and-inside, mod-more}
 use Rattle.rounds.proofs.Seeds.{seed-is, largest-one}
-use Rattle.seek.specs.Paths.{Fits, Parts, Decides, Reasons, Same, Seeks, soughtIs, above, reasonOf, Along, Clear, Tries}
+use Rattle.path.specs.Paths.{Fits, Parts, Decides, Reasons, Same}
+use Rattle.seek.specs.Paths.{Seeks, soughtIs, above, reasonOf, Along, Clear, Tries}
 use Rattle.seek.specs.declared.Sought.{Sought}
 use Rattle.seek.specs.declared.Sought.the-variants as Sought·v
 
@@ -99,6 +101,13 @@ same-top last z g h i =
       inside-le (last / 2 ^ suc g) (z / 2 ^ suc g) (λ j. omega (arith, digit-over last (suc g) j, digit-over z (suc g) j, above-digit last g (suc g + j) (omega arith), i (suc g + j))),
     )
 
+pub rests-out : (last z g : ℕ) → z < last → digit last g ≡ 0 → Inside (above last g) z → digit z g ≡ 0
+rests-out last z g h d i = go (digit-or z g)
+  where
+    go : (digit z g ≡ 0) ⊎ (digit z g ≡ 1) → digit z g ≡ 0
+    go (inl o) = o
+    go (inr o) = absurd (omega (arith, over-lt last z g (sym (same-top last z g h i)) d o, h))
+
 holds-above : (last z g : ℕ) → z / 2 ^ suc g ≡ last / 2 ^ suc g → Inside (above last g) z
 holds-above last z g e =
     subst (Inside (above last g)) (split z (suc g))
@@ -112,11 +121,8 @@ module _ (n last g : ℕ) (h : last < 2 ^ n) (d : digit last g ≡ 1) where
   low : ℕ
   low = 2 ^ g - 1
 
-  room : above last g + 2 ^ g ≤ last
-  room = omega (arith, split last (suc g), mod-more last g, d, ap (λ (x : ℕ). x * 2 ^ g) d)
-
-  pub held-fits : above last g + (2 ^ g - 1) < 2 ^ n
-  held-fits = omega (arith, room, h)
+  pub held-fits : above last g + 2 ^ g < 2 ^ n
+  held-fits = omega (arith, split last (suc g), mod-more last g, d, ap (λ (x : ℕ). x * 2 ^ g) d, h)
 
   low-digit : (j : ℕ) → j < g → digit (2 ^ g - 1) j ≡ 1
   low-digit j l = omega (arith, digit-none j, digit-complement g 0 j (pow-pos g) l, ap (λ (x : ℕ). digit x j) (let e : complement g 0 ≡ 2 ^ g - 1 = omega arith in e))
@@ -140,7 +146,7 @@ module _ (n last g : ℕ) (h : last < 2 ^ n) (d : digit last g ≡ 1) where
 
   left-digit : (left : ℕ) → left ≡ 2 ^ n - 1 - above last g - (2 ^ g - 1) → (j : ℕ) → j < n → digit left j + digit (above last g) j + digit (2 ^ g - 1) j ≡ 1
   left-digit left e j l =
-      omega (arith, ap (λ (x : ℕ). digit x j) (e ∙ (let q : 2 ^ n - 1 - above last g - (2 ^ g - 1) ≡ complement n (above last g + (2 ^ g - 1)) = omega arith in q)), digit-complement n (above last g + (2 ^ g - 1)) j held-fits l, sum-digit j)
+      omega (arith, ap (λ (x : ℕ). digit x j) (e ∙ (let q : 2 ^ n - 1 - above last g - (2 ^ g - 1) ≡ complement n (above last g + (2 ^ g - 1)) = omega arith in q)), digit-complement n (above last g + (2 ^ g - 1)) j (omega (arith, held-fits)) l, sum-digit j)
 
   module _ (left : ℕ) (e : left ≡ 2 ^ n - 1 - above last g - (2 ^ g - 1)) where
     pub along-parts : Parts n (above last g) left (2 ^ g - 1)
@@ -202,7 +208,7 @@ module _ (n last g : ℕ) (h : last < 2 ^ n) (d : digit last g ≡ 1) where
               let l : g < j = omega (arith, higher) in
               let o : digit last j ≡ 0 = omega (arith, left-digit left e j b, above-digit last g j l) in
               subst (λ (y : ℕ). Inside y (above last g) × ((z : ℕ) → Fit z → Inside y z → digit z j ≡ 0)) (sym (later j l b ∙ reason-out last j o))
-              ((λ i. under i (lt-or-ge j i)), λ z f i. not-two z (λ u. omega (arith, over-lt last z j (sym (same-top last z j (falls z f) i)) o u, falls z f)))
+              ((λ i. under i (lt-or-ge j i)), λ z f i. rests-out last z j (falls z f) o i)
             where
               under : (i : ℕ) → (j < i) ⊎ (i ≤ j) → digit (above last j) i ≤ digit (above last g) i
               under i (inl l) = omega (arith, above-digit last j i l, above-digit last g i (omega (arith, higher)))
@@ -210,6 +216,38 @@ module _ (n last g : ℕ) (h : last < 2 ^ n) (d : digit last g ≡ 1) where
 
       pub along-reasons : Reasons Fit (above last g) (above last g) left (set why g (above last g))
       along-reasons = record { trial = inside-refl (above last g); takes = takes; leaves = leaves }
+
+-- ---- along all of the last seed
+module _ (n last : ℕ) (h : last < 2 ^ n) where
+  other : (j : ℕ) → j < n → digit (2 ^ n - 1 - last) j + digit last j ≡ 1
+  other j l = omega (arith, digit-complement n last j h l, ap (λ (x : ℕ). digit x j) (let e : complement n last ≡ 2 ^ n - 1 - last = omega arith in e))
+
+  pub whole-parts : Parts n last (2 ^ n - 1 - last) 0
+  whole-parts = record { taken-in = h; left-in = omega (arith, pow-pos n); free-in = pow-pos n; one = λ j l. omega (arith, other j l, digit-none j) }
+
+  module _ (Fit : ℕ → Type 0) (why : List ℕ) (A : Along last n 0 why) (falls : (z : ℕ) → Fit z → z < last) where
+    pub whole-reasons : Reasons Fit last last (2 ^ n - 1 - last) why
+    whole-reasons = record { trial = inside-refl last; takes = takes; leaves = leaves }
+      where
+        takes : Decides Fit last last why 1
+        takes j q =
+            subst (λ (y : ℕ). Inside y last × ((z : ℕ) → Fit z → Inside y z → digit z j ≡ 1)) (sym (A j (omega arith) (digit-in n last j h q) ∙ reason-in last j q))
+            ((λ i. one i (ℕ-discrete i j)), λ z f i. omega (arith, i j, digit-pow j, digit-lt z j))
+          where
+            one : (i : ℕ) → Dec (i ≡ j) → digit (2 ^ j) i ≤ digit last i
+            one i (yes w) = rw w (omega (arith, q, digit-lt (2 ^ j) j))
+            one i (no w) = omega (arith, digit-pow-other j i w)
+
+        leaves : Decides Fit last (2 ^ n - 1 - last) why 0
+        leaves j q =
+            let l : j < n = digit-in n (2 ^ n - 1 - last) j (omega (arith, pow-pos n)) q in
+            let o : digit last j ≡ 0 = omega (arith, other j l) in
+            subst (λ (y : ℕ). Inside y last × ((z : ℕ) → Fit z → Inside y z → digit z j ≡ 0)) (sym (A j (omega arith) l ∙ reason-out last j o))
+            ((λ i. under i (lt-or-ge j i)), λ z f i. rests-out last z j (falls z f) o i)
+          where
+            under : (i : ℕ) → (j < i) ⊎ (i ≤ j) → digit (above last j) i ≤ digit last i
+            under i (inl b) = omega (arith, above-digit last j i b)
+            under i (inr b) = omega (arith, above-low last j i b)
 
 -- ---- from one group to the next
 module _ (Fit : ℕ → Type 0) (last : ℕ) (falls : (z : ℕ) → Fit z → z < last) where
@@ -249,6 +287,9 @@ along-more last g r why f h e j l = go (ℕ-discrete j g)
 
 pub along-next : (last n g : ℕ) (why : List ℕ) → Along last n g why → Along last n (suc g) why
 along-next last n g why A j h l = A j (omega arith) l
+
+pub along-same : (last n : ℕ) (why after : List ℕ) → Along last n 0 why → Same 0 why after → Along last n 0 after
+along-same last n why after A S j h l = S .rest j (digit-none j) ∙ A j h l
 
 pub along-after : (last n g f x : ℕ) (why after : List ℕ) → Along last n g why → f ≡ 2 ^ g - 1 → Same f (set why g x) after → Along last n (suc g) after
 along-after last n g f x why after A e S j h l =

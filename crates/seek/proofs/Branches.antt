@@ -1,51 +1,33 @@
 -- Laws of the search's branches.
---   same-refl, same-trans, same-wider, same-set      the reasons of groups that are not free stay
 --   alike                    choices that contain the trials agree on every group that is not free
 --   leaf-seeks               where every group is decided, one choice is left
 --   lower                    of two choices that agree above a group, the one without it is less
 --   has-bit, lacks-bit       the test of one group by its bit
 --   trial-parts, trial-held, trial-reasons, trial-found, trial-jump, trial-out      a group taken by trial: the path with it; a choice found there; a failure that does not rest on it; one that does (out-parts)
---   step-fits, step-in, step-found, step-jump, step-less, step-out, step-same, again-same      the same, as code makes it
---   press-shut, press-last   all groups of a record are on its side; all but one are
---   narrows-none, narrows-explanation, narrows-repair      what a record decides: nothing, or its last group, by its kind
---   explanation-shut, explanation-open, repair-shut, repair-open      the same, as pressing answers it
---   then-same, narrows-then  one record after the other
+--   step-fits, step-wide, step-in, step-found, step-jump, step-less, step-out, step-same      the same, as code makes it
 -- Assumes nothing.
-use Prim.Native.Nat.{ℕ, zero, suc, _+_, _-_, _*_, _/_, _%_, _^_, _≤_, _<_, min, max}
-use mathlib.Core.Path.{_≡_, refl, sym, ap, ap₂, _∙_, subst}
+use Prim.Native.Nat.{ℕ, suc, _+_, _-_, _/_, _^_, _≤_, _<_}
+use mathlib.Core.Path.{_≡_, refl, sym, ap, _∙_, subst}
 use mathlib.Core.Logic.{_⊎_, inl, inr, _≢_}
-use mathlib.Core.List.{List, [], _∷_}
+use mathlib.Core.List.{List}
 use mathlib.Core.Bool.{Bool, true, false, cond}
 use native.Mathlib.Omega.{arith}
 use native.Mathlib.Decide.{ℕ-discrete}
-use lib.Bits.{bitAnd, bitOr, and-le-l}
-use lib.Pow.{pow-pos}
+use lib.Bits.{bitAnd}
+use lib.Pow.{pow-pos, pow-mono}
 use lib.ListN.{length, getD, set, length-set}
-use lib.Seq.{getD-set-same, getD-set-other}
+use lib.Seq.{getD-set-other}
 use Rattle.answer.proofs.Tests.{clash}
 use Rattle.meaning.specs.Choice.{digit, Inside}
-use Rattle.meaning.proofs.Choices.{digit-lt, digit-or, digit-of, digit-none, digit-high}
+use Rattle.meaning.proofs.Choices.{digit-lt, digit-or, digit-none, digit-high}
 use Rattle.rounds.specs.Records.{Record, allowed}
-use Rattle.rounds.proofs.Digits.{lt-or-ge, digits-same, digit-in, digit-both, add-same, add-other, less-same, less-other, pow-le, inside-le, inside-refl, inside-trans, inside-add, add-inside, less-inside, digit-pow, digit-pow-other, and-inside}
+use Rattle.rounds.proofs.Digits.{lt-or-ge, digits-same, digit-both, add-same, add-other, less-same, less-other, pow-le, inside-le, inside-refl, inside-trans, inside-add, add-inside, digit-pow, digit-pow-other}
 use Rattle.choice.specs.Groups.{Highest}
-use Rattle.seek.specs.Paths.{Fits, Bars, Parts, Decides, Reasons, Rules, gathered, Same, Last, Pressing, Narrows, Closing, leafOf, Seeks}
+use Rattle.path.specs.Paths.{Fits, Parts, Reasons, Rules, Same}
+use Rattle.path.proofs.Paths.{parts-swap, parts-take, free-below, free-taken, less-free, reasons-same, reasons-take, reasons-leave}
+use Rattle.path.proofs.Pressing.{same-trans, same-wider, same-set}
+use Rattle.seek.specs.Paths.{leafOf, Seeks}
 use Rattle.seek.specs.declared.Sought.the-variants as Sought·v
-use Rattle.seek.specs.declared.Pressed.the-variants as Pressed·v
-use Rattle.seek.specs.declared.Closed.the-variants as Closed·v
-use Rattle.seek.proofs.Paths.{shut-rules, last-decides, parts-swap, parts-take, free-below, free-taken, free-left, less-free, reasons-same, reasons-take, reasons-leave}
-
--- ---- reasons that stay
-pub same-refl : (free : ℕ) (why : List ℕ) → Same free why why
-same-refl free why = record { long = refl; rest = λ g d. refl }
-
-pub same-trans : (free : ℕ) (a b c : List ℕ) → Same free a b → Same free b c → Same free a c
-same-trans free a b c s t = record { long = t .long ∙ s .long; rest = λ g d. t .rest g d ∙ s .rest g d }
-
-pub same-wider : (free f : ℕ) (a b : List ℕ) → ((g : ℕ) → digit free g ≡ 0 → digit f g ≡ 0) → Same f a b → Same free a b
-same-wider free f a b w s = record { long = s .long; rest = λ g d. s .rest g (w g d) }
-
-pub same-set : (free g c : ℕ) (why : List ℕ) → digit free g ≡ 1 → Same free why (set why g c)
-same-set free g c why d = record { long = length-set why g c; rest = λ j e. getD-set-other why g j c 0 (λ q. omega (arith, d, ap (digit free) (sym q) ∙ e)) }
 
 -- ---- where every group is decided
 module _ (n : ℕ) (rs : List Record) (held taken left free : ℕ) (why : List ℕ) (P : Parts n taken left free) (R : Reasons (Fits n rs) held taken left why) where
@@ -163,137 +145,63 @@ module _ (n : ℕ) (rs : List Record) (held taken left free g : ℕ) (why : List
   pub out-parts : Parts n taken (left + 2 ^ g) (free - 2 ^ g)
   out-parts = parts-swap n (left + 2 ^ g) taken (free - 2 ^ g) (parts-take n left taken free (parts-swap n taken left free P) g (H .in-it))
 
--- ---- what one record decides
-module _ (n set side other free : ℕ) where
-  pub press-shut : set - bitAnd set side ≡ 0 → (bitAnd set side ≡ set) × Inside set side
-  press-shut e = let q : bitAnd set side ≡ set = omega (arith, and-le-l set side) in (q, and-inside set side .0 q)
-
-  pub press-last : (g : ℕ) → Parts n side other free → set < 2 ^ n → 2 ^ g ≡ set - bitAnd set side → digit free g ≡ 1 → Last n set side free g
-  press-last g P h e d =
-      record {
-        within = h;
-        is-free = d;
-        others = λ j q o. omega (arith, digit-lt side j, digit-both set side j, q, ap (λ (x : ℕ). digit x j) whole, add-other (bitAnd set side) g j apart o);
-      }
-    where
-      whole : set ≡ bitAnd set side + 2 ^ g
-      whole = omega (arith, e, and-le-l set side)
-
-      apart : digit (bitAnd set side) g ≡ 0
-      apart = omega (arith, digit-both set side g, free-taken n side other free P g d)
-
-module _ (n : ℕ) (Fit : ℕ → Type 0) (set taken left free : ℕ) (why : List ℕ) (P : Parts n taken left free) where
-  pub narrows-none : Narrows n Fit taken left free why free taken left why
-  narrows-none = record { parts = P; fewer = omega arith; inside = λ g d. d; reasons = λ held R. R }
-
-  module _ (g : ℕ) (h : n ≤ length why) where
-    pub narrows-explanation : Bars Fit set 1 → Last n set taken free g → Narrows n Fit taken left free why (free - 2 ^ g) taken (left + 2 ^ g) (lib.ListN.set why g (gathered why (bitAnd set taken) n))
-    narrows-explanation B L =
-        record {
-          parts = parts-swap n (left + 2 ^ g) taken (free - 2 ^ g) (parts-take n left taken free (parts-swap n taken left free P) g (L .is-free));
-          fewer = omega arith;
-          inside = less-free n taken left free P g (L .is-free);
-          reasons = λ held R. let D = last-decides Fit n held taken set 1 why (R .takes) B g 0 free refl L in reasons-leave n Fit held taken left free why P R g (gathered why (bitAnd set taken) n) (L .is-free) (omega (arith, free-below n taken left free P g (L .is-free))) (D .0) (D .1);
-        }
-
-    pub narrows-repair : Bars Fit set 0 → Last n set left free g → Narrows n Fit taken left free why (free - 2 ^ g) (taken + 2 ^ g) left (lib.ListN.set why g (gathered why (bitAnd set left) n))
-    narrows-repair B L =
-        record {
-          parts = parts-take n taken left free P g (L .is-free);
-          fewer = omega arith;
-          inside = less-free n taken left free P g (L .is-free);
-          reasons = λ held R.
-              let D = last-decides Fit n held left set 0 why (R .leaves) B g 1 free refl L in
-              reasons-take n Fit held taken left free why P R g (gathered why (bitAnd set left) n) (L .is-free) (omega (arith, free-below n taken left free P g (L .is-free))) held (inside-refl held)
-              (inside-trans held taken (taken + 2 ^ g) (R .trial) (inside-add taken g (free-taken n taken left free P g (L .is-free)))) (D .0) (D .1);
-        }
-
--- ---- one record after the other
-module _ (n : ℕ) (Fit : ℕ → Type 0) (taken left free : ℕ) (why : List ℕ) (f t l : ℕ) (mid : List ℕ) (N : Narrows n Fit taken left free why f t l mid) (S : Same free why mid) where
-  pub then-same : (after : List ℕ) → Same f mid after → Same free why after
-  then-same after s = same-trans free why mid after S (same-wider free f mid after (N .inside) s)
-
-  pub narrows-then : (f′ t′ l′ : ℕ) (after : List ℕ) → Narrows n Fit t l f mid f′ t′ l′ after → Narrows n Fit taken left free why f′ t′ l′ after
-  narrows-then f′ t′ l′ after M =
-      record {
-        parts = M .parts;
-        fewer = omega (arith, M .fewer, N .fewer);
-        inside = λ g d. M .inside g (N .inside g d);
-        reasons = λ held R. M .reasons held (N .reasons held R);
-      }
-
--- ---- the same, as pressing answers it
-module _ (n : ℕ) (Fit : ℕ → Type 0) (set taken left free : ℕ) (why after : List ℕ) (P : Parts n taken left free) (h : n ≤ length why) where
-  unchanged : after ≡ why → Same free why after
-  unchanged e = subst (Same free why) (sym e) (same-refl free why)
-
-  moved : (g c : ℕ) → digit free g ≡ 1 → after ≡ lib.ListN.set why g c → Same free why after
-  moved g c d e = subst (Same free why) (sym e) (same-set free g c why d)
-
-  -- a record whose groups cannot all have the value v, decided on a side
-  rules : (side other v c : ℕ) → Bars Fit set v → Pressing n set side other free why (Pressed·v.Shut c) after → (held : ℕ) → Decides Fit held side why v → Rules Fit held c
-  rules side other v c B p held D = subst (Rules Fit held) (sym (p .2)) (shut-rules Fit n held side set v why D B (p .0) (p .1))
-
-  module _ (B : Bars Fit set 1) where
-    pub explanation-shut : (c : ℕ) → Pressing n set taken left free why (Pressed·v.Shut c) after → Closing n Fit taken left free why (Closed·v.Shut c) after
-    explanation-shut c p = (unchanged (p .3), λ held R. rules taken left 1 c B p held (R .takes))
-
-    pub explanation-open : (f o : ℕ) → Pressing n set taken left free why (Pressed·v.Open f o) after → Closing n Fit taken left free why (Closed·v.Open f taken o) after
-    explanation-open f o (inl p) = (unchanged (p .2), rw (p .0, p .1, p .2) (narrows-none n Fit set taken left free why P))
-    explanation-open f o (inr p) =
-        (moved (p .0) (gathered why (bitAnd set taken) n) (p .1 .is-free) (p .4), rw (p .2, p .3, p .4) (narrows-explanation n Fit set taken left free why P (p .0) h B (p .1)))
-
-  module _ (B : Bars Fit set 0) where
-    pub repair-shut : (c : ℕ) → Pressing n set left taken free why (Pressed·v.Shut c) after → Closing n Fit taken left free why (Closed·v.Shut c) after
-    repair-shut c p = (unchanged (p .3), λ held R. rules left taken 0 c B p held (R .leaves))
-
-    pub repair-open : (f o : ℕ) → Pressing n set left taken free why (Pressed·v.Open f o) after → Closing n Fit taken left free why (Closed·v.Open f o left) after
-    repair-open f o (inl p) = (unchanged (p .2), rw (p .0, p .1, p .2) (narrows-none n Fit set taken left free why P))
-    repair-open f o (inr p) =
-        (moved (p .0) (gathered why (bitAnd set left) n) (p .1 .is-free) (p .4), rw (p .2, p .3, p .4) (narrows-repair n Fit set taken left free why P (p .0) h B (p .1)))
-
--- the reasons that stay, where that of the group g changed first
-pub again-same : (n taken left free g b : ℕ) (why : List ℕ) → Parts n taken left free → Highest free g → b ≡ 2 ^ g
-    → (old after : List ℕ) (wide c : ℕ) → ((j : ℕ) → digit wide j ≡ 0 → digit free j ≡ 0) → Same wide old why → Same (free - b) (set why g c) after → Same wide old after
-again-same n taken left free g b why P H e old after wide c w S T =
-    same-trans wide old why after S
-    (same-wider wide free why after w
-    (same-trans free why (set why g c) after (same-set free g c why (H .in-it)) (same-wider free (free - b) (set why g c) after (λ j d. rw e (less-free n taken left free P g (H .in-it) j d)) T)))
-
 -- ---- one step of the search, as code makes it: b is the highest free group's bit, `why` are the reasons before it
-module _ (n : ℕ) (rs : List Record) (held taken left free g b : ℕ) (why : List ℕ) (P : Parts n taken left free) (R : Reasons (Fits n rs) held taken left why) (H : Highest free g) (e : b ≡ 2 ^ g) where
+pub record Step (n : ℕ) (rs : List Record) (held taken left free g b : ℕ) (why : List ℕ) : Type 0 where
+  pub parts : Parts n taken left free
+  pub reasons : Reasons (Fits n rs) held taken left why
+  pub highest : Highest free g
+  pub is-bit : b ≡ 2 ^ g
+
+module _ {n : ℕ} {rs : List Record} {held taken left free g b : ℕ} {why : List ℕ} (S : Step n rs held taken left free g b why) where
   pub step-fits : (held + b < 2 ^ n) × (taken + b < 2 ^ n) × (left + b < 2 ^ n) × (b ≤ free) × (0 < b)
-  step-fits = rw e (
-    (let q = inside-le (held + 2 ^ g) (taken + 2 ^ g) (trial-held n rs held taken left free g why P R H) in omega (arith, q, trial-parts n rs held taken left free g why P R H .taken-in)),
-    trial-parts n rs held taken left free g why P R H .taken-in,
-    out-parts n rs held taken left free g why P R H .left-in,
-    pow-le free g (H .in-it),
+  step-fits = rw (S .is-bit) (
+    (let q = inside-le (held + 2 ^ g) (taken + 2 ^ g) (trial-held n rs held taken left free g why (S .parts) (S .reasons) (S .highest)) in omega (arith, q, trial-parts n rs held taken left free g why (S .parts) (S .reasons) (S .highest) .taken-in)),
+    trial-parts n rs held taken left free g why (S .parts) (S .reasons) (S .highest) .taken-in,
+    out-parts n rs held taken left free g why (S .parts) (S .reasons) (S .highest) .left-in,
+    pow-le free g (S .highest .in-it),
     pow-pos g,
   )
 
+  -- a sum of choices of the groups fits a word that has room for them
+  pub step-wide : n ≤ 32 → (held + b < 2 ^ 32) × (taken + b < 2 ^ 32) × (left + b < 2 ^ 32)
+  step-wide h =
+      let q = step-fits in
+      let m = pow-mono {i = n} {j = 32} h in
+      (omega (arith, q .0, m), omega (arith, q .1, m), omega (arith, q .2, m))
+
   pub step-in : n ≤ length why → Parts n (taken + b) left (free - b) × Reasons (Fits n rs) (held + b) (taken + b) left (set why g b)
-  step-in h = rw e (trial-parts n rs held taken left free g why P R H, trial-reasons n rs held taken left free g why P R H (omega (arith, free-below n taken left free P g (H .in-it))))
+  step-in h =
+      rw (S .is-bit) (
+        trial-parts n rs held taken left free g why (S .parts) (S .reasons) (S .highest),
+        trial-reasons n rs held taken left free g why (S .parts) (S .reasons) (S .highest) (omega (arith, free-below n taken left free (S .parts) g (S .highest .in-it))),
+      )
 
   pub step-found : (s : ℕ) → Seeks (Fits n rs) (held + b) (Sought·v.At s) → Seeks (Fits n rs) held (Sought·v.At s)
-  step-found s F = trial-found n rs held taken left free g why P R H s (subst (λ (x : ℕ). Seeks (Fits n rs) (held + x) (Sought·v.At s)) e F)
+  step-found s F = trial-found n rs held taken left free g why (S .parts) (S .reasons) (S .highest) s (subst (λ (x : ℕ). Seeks (Fits n rs) (held + x) (Sought·v.At s)) (S .is-bit) F)
 
   module _ (c : ℕ) (C : Rules (Fits n rs) (held + b) c) where
     ruled : Rules (Fits n rs) (held + 2 ^ g) c
-    ruled = subst (λ (x : ℕ). Rules (Fits n rs) (held + x) c) e C
+    ruled = subst (λ (x : ℕ). Rules (Fits n rs) (held + x) c) (S .is-bit) C
 
     pub step-jump : bitAnd c b ≡ 0 → Rules (Fits n rs) held c
-    step-jump q = trial-jump n rs held taken left free g why P R H c ruled (lacks-bit c g (subst (λ (x : ℕ). bitAnd c x ≡ 0) e q))
+    step-jump q = trial-jump n rs held taken left free g why (S .parts) (S .reasons) (S .highest) c ruled (lacks-bit c g (subst (λ (x : ℕ). bitAnd c x ≡ 0) (S .is-bit) q))
 
     pub step-less : bitAnd c b ≢ 0 → b ≤ c
-    step-less q = rw e (pow-le c g (has-bit c g (subst (λ (x : ℕ). bitAnd c x ≢ 0) e q)))
+    step-less q = rw (S .is-bit) (pow-le c g (has-bit c g (subst (λ (x : ℕ). bitAnd c x ≢ 0) (S .is-bit) q)))
 
     pub step-out : (after : List ℕ) → bitAnd c b ≢ 0 → n ≤ length why → Same (free - b) (set why g b) after → Parts n taken (left + b) (free - b) × Reasons (Fits n rs) held taken (left + b) (set after g (c - b))
-    step-out after q h S =
-        rw e (
-          out-parts n rs held taken left free g why P R H,
-          trial-out n rs held taken left free g why P R H c ruled after (has-bit c g (subst (λ (x : ℕ). bitAnd c x ≢ 0) e q)) (S .long ∙ length-set why g b) (omega (arith, free-below n taken left free P g (H .in-it)))
-              (λ j d. S .rest j (rw e (less-free n taken left free P g (H .in-it) j d)) ∙ getD-set-other why g j b 0 (λ w. omega (arith, H .in-it, ap (digit free) (sym w) ∙ d))),
+    step-out after q h T =
+        rw (S .is-bit) (
+          out-parts n rs held taken left free g why (S .parts) (S .reasons) (S .highest),
+          trial-out n rs held taken left free g why (S .parts) (S .reasons) (S .highest) c ruled after (has-bit c g (subst (λ (x : ℕ). bitAnd c x ≢ 0) (S .is-bit) q)) (T .long ∙ length-set why g b)
+              (omega (arith, free-below n taken left free (S .parts) g (S .highest .in-it)))
+              (λ j d. T .rest j (rw (S .is-bit) (less-free n taken left free (S .parts) g (S .highest .in-it) j d)) ∙ getD-set-other why g j b 0 (λ w. omega (arith, S .highest .in-it, ap (digit free) (sym w) ∙ d))),
         )
 
-  pub step-same : (old after : List ℕ) (wide c : ℕ) → ((j : ℕ) → digit wide j ≡ 0 → digit free j ≡ 0) → Same wide old why → Same (free - b) (set why g c) after → Same wide old after
-  step-same = again-same n taken left free g b why P H e
+  -- the reasons that stay, where that of the group g changed first
+  pub step-same : (old mid after : List ℕ) (wide c : ℕ) → ((j : ℕ) → digit wide j ≡ 0 → digit free j ≡ 0) → Same wide old mid → Same (free - b) (set mid g c) after → Same wide old after
+  step-same old mid after wide c w M T =
+      same-trans wide old mid after M
+      (same-wider wide free mid after w
+      (same-trans free mid (set mid g c) after (same-set free g c mid (S .highest .in-it))
+      (same-wider free (free - b) (set mid g c) after (λ j d. rw (S .is-bit) (less-free n taken left free (S .parts) g (S .highest .in-it) j d)) T)))

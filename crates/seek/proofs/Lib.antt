@@ -1,4 +1,3 @@
 -- Laws of the seed search.
-pub mod Paths
 pub mod Branches
 pub mod Below

@@ -1,224 +1,24 @@
 // The seed: the largest choice that contains no listed explanation and shares a group with every listed repair. The search decides the highest group that is
-// still free, first in, then out. A record all of whose groups but one are decided against it decides the last one; each decided group keeps the trials that it
-// rests on, so a branch that fails names the trials that made it fail, and the search goes back to the last of them. Which records are looked at, and when, is a
-// matter of speed alone: every choice is tested against all records before it is answered.
+// still free, first in, then out, and lets the records decide what follows. Each decided group keeps the trials that it rests on, so a branch that fails names the
+// trials that made it fail, and the search goes back to the last of them. Every choice is tested against all records before it is answered. The records that may
+// still be open stand in front of a list, so that a branch looks only at those that its first part left open.
 ghost use mathlib.Core.Path.{_≡_};
-ghost use mathlib.Core.Logic.{_≢_};
-ghost use mathlib.Core.Bool.{cond};
-ghost use Prim.Native.Nat.{ℕ, suc, _+_, _-_, _*_, _^_, _≤_, _<_};
-ghost use lib.Bits.{bitOr};
-ghost use lib.Dec.{eqb};
-ghost use lib.ListN.{length, getD};
-ghost use Rattle.meaning.specs.Choice.{digit, Inside};
+ghost use Prim.Native.Nat.{ℕ, suc, _+_, _^_, _≤_, _<_};
+ghost use lib.ListN.{length};
+ghost use Rattle.meaning.specs.Choice.{Inside};
 ghost use Rattle.rounds.specs.Rounds.{seed};
 ghost use Rattle.choice.specs.Groups.{width};
 ghost use Rattle.records.specs.Words.{room, recordsOf};
-ghost use Rattle.seek.specs.Paths.{Fits, Parts, Reasons, gathered, Same, Pressing, Closing, leafOf, Seeks, soughtIs, reasonOf, Along, Clear, Tries};
+ghost use Rattle.open_list.specs.Entries.{head};
+ghost use Rattle.path.specs.Paths.{Fits, Parts, Reasons, Same};
+ghost use Rattle.seek.specs.Paths.{leafOf, Seeks, soughtIs, reasonOf, Along, Clear, Tries};
+use closing::Passed;
+use path::Closed;
 
 // A seed, or the trials that rule out every choice that contains them.
 pub enum Sought {
     At { choice: u32 },
     Nothing { groups: u32 },
-}
-
-// What a group rests on is added, if the set has it.
-fn add_reason(set: u32, g: u32, why: &[u32], all: u32) -> u32
-    requires { ⌜ (g < width) × (g < length (now why)) ⌝ }
-    ensures { λ r. ⌜ r ≡ cond (eqb (digit set g) 1) (bitOr all (getD (now (why .entry)) g 0)) all ⌝ }
-{
-    if !choice::has(set, g) {
-        return all;
-    }
-    let i = g as usize;
-    all | why[i]
-}
-
-// What the groups of a set rest on.
-fn gather(set: u32, groups: u32, why: &[u32]) -> u32
-    requires { ⌜ (groups ≤ width) × (groups ≤ length (now why)) ⌝ }
-    ensures { λ r. ⌜ r ≡ gathered (now (why .entry)) set groups ⌝ }
-{
-    let mut all: u32 = 0;
-    let mut g: u32 = 0;
-    while g < groups {
-        all = add_reason(set, g, why, all);
-        g += 1;
-    }
-    all
-}
-
-// Whether a set has no group, or one.
-fn at_most_one(set: u32) -> bool {
-    if set == 0 {
-        return true;
-    }
-    (set & (set - 1)) == 0
-}
-
-// Whether a record may decide a group, or shut: none of its groups is decided in its favour, and at most one is free. A hint, on which no answer rests.
-fn is_tight(kind: u32, set: u32, taken: u32, left: u32) -> bool {
-    if kind == records::EXPLANATION {
-        if (set & left) != 0 {
-            return false;
-        }
-        return at_most_one(set - (set & taken));
-    }
-    if (set & taken) != 0 {
-        return false;
-    }
-    at_most_one(set - (set & left))
-}
-
-// The record before i; the last one is before the first.
-fn previous(i: usize, count: usize) -> usize
-    requires { ⌜ (0 < count) × (i ≤ count) ⌝ }
-    ensures { λ r. ⌜ r < count ⌝ }
-{
-    if i == 0 {
-        return count - 1;
-    }
-    i - 1
-}
-
-// The next record that may decide a group, going down from a record and round; `count` where there is none.
-fn next_tight(records: &[u32], count: usize, from: usize, taken: u32, left: u32) -> usize
-    requires { ⌜ (count ≤ room (now records)) × (from ≤ count) ⌝ }
-    ensures { λ r. ⌜ r ≤ count ⌝ }
-{
-    let mut i = from;
-    let mut unseen = count;
-    while 0 < unseen {
-        i = previous(i, count);
-        if is_tight(
-            records::kind_at(records, i),
-            records::set_at(records, i),
-            taken,
-            left,
-        ) {
-            return i;
-        }
-        unseen -= 1;
-    }
-    count
-}
-
-enum Pressed {
-    Shut { groups: u32 },
-    Open { free: u32, other: u32 },
-}
-
-// A record's groups cannot all be on one side. If all are, what put them there rules the path out; if all but one are, and that one is free, it goes to the other
-// side.
-fn press(set: u32, side: u32, other: u32, free: u32, groups: u32, why: &mut [u32]) -> Pressed
-    requires { ⌜ (groups ≤ width) × (groups ≤ length (now why)) × Parts groups side other free ⌝ }
-    ensures { λ r. ⌜ Pressing groups set side other free (now (why .entry)) r (now (why .exit)) ⌝ }
-{
-    if choice::exceeds(set, groups) {
-        return Pressed::Open { free, other };
-    }
-    let reason = gather(set & side, groups, why);
-    let rest = set - (set & side);
-    if rest == 0 {
-        return Pressed::Shut { groups: reason };
-    }
-    let group = choice::highest(rest, groups);
-    let b = choice::bit(group);
-    if b != rest {
-        return Pressed::Open { free, other };
-    }
-    if !choice::has(free, group) {
-        return Pressed::Open { free, other };
-    }
-    let i = group as usize;
-    why[i] = reason;
-    Pressed::Open {
-        free: free - b,
-        other: other + b,
-    }
-}
-
-enum Closed {
-    Shut { groups: u32 },
-    Open { free: u32, taken: u32, left: u32 },
-}
-
-// What one record decides.
-fn advance(
-    records: &[u32],
-    count: usize,
-    i: usize,
-    groups: u32,
-    free: u32,
-    taken: u32,
-    left: u32,
-    why: &mut [u32],
-) -> Closed
-    requires { ⌜ (count ≤ room (now records)) × (i < count) × (groups ≤ width) × (groups ≤ length (now why)) × Parts groups taken left free ⌝ }
-    ensures { λ r. ⌜ Closing groups (Fits groups (recordsOf (now (records .entry)) count)) taken left free (now (why .entry)) r (now (why .exit)) ⌝ }
-{
-    let set = records::set_at(records, i);
-    if records::kind_at(records, i) == records::EXPLANATION {
-        match press(set, taken, left, free, groups, why) {
-            Pressed::Shut { groups } => Closed::Shut { groups },
-            Pressed::Open { free, other } => Closed::Open {
-                free,
-                taken,
-                left: other,
-            },
-        }
-    } else {
-        match press(set, left, taken, free, groups, why) {
-            Pressed::Shut { groups } => Closed::Shut { groups },
-            Pressed::Open { free, other } => Closed::Open {
-                free,
-                taken: other,
-                left,
-            },
-        }
-    }
-}
-
-// What the records decide, until none decides any more.
-fn close(
-    records: &[u32],
-    count: usize,
-    groups: u32,
-    free: u32,
-    taken: u32,
-    left: u32,
-    why: &mut [u32],
-) -> Closed
-    requires { ⌜ (count ≤ room (now records)) × (groups ≤ width) × (groups ≤ length (now why)) × Parts groups taken left free ⌝ }
-    ensures { λ r. ⌜ Closing groups (Fits groups (recordsOf (now (records .entry)) count)) taken left free (now (why .entry)) r (now (why .exit)) ⌝ }
-{
-    let mut f = free;
-    let mut t = taken;
-    let mut l = left;
-    let mut from = count;
-    loop {
-        let i = next_tight(records, count, from, t, l);
-        if count <= i {
-            return Closed::Open {
-                free: f,
-                taken: t,
-                left: l,
-            };
-        }
-        match advance(records, count, i, groups, f, t, l, why) {
-            Closed::Shut { groups } => {
-                return Closed::Shut { groups };
-            }
-            Closed::Open { free, taken, left } => {
-                if free == f {
-                    return Closed::Open { free, taken, left };
-                }
-                f = free;
-                t = taken;
-                l = left;
-                from = i;
-            }
-        }
-    }
 }
 
 // Every group is decided: the choice, if all records leave it.
@@ -232,24 +32,45 @@ fn leaf(records: &[u32], count: usize, held: u32, taken: u32) -> Sought
     Sought::Nothing { groups: held }
 }
 
-// The largest choice that fits and contains the trials: with the highest free group, else without it.
+// The largest choice that fits and contains the trials: with the highest free group, else without it. The first n records of the list may be open; deeper searches
+// only change their order.
 fn search(
     records: &[u32],
     count: usize,
     groups: u32,
     held: u32,
+    fresh: u32,
     free: u32,
     taken: u32,
     left: u32,
+    n: usize,
+    list: &mut [u16],
     why: &mut [u32],
 ) -> Sought
     requires { ⌜ (count ≤ room (now records)) × (groups ≤ width) × (groups ≤ length (now why)) × Parts groups taken left free
-        × Reasons (Fits groups (recordsOf (now records) count)) held taken left (now why) ⌝ }
-    ensures { λ r. ⌜ Seeks (Fits groups (recordsOf (now (records .entry)) count)) held r × Same free (now (why .entry)) (now (why .exit)) ⌝ }
+        × Reasons (Fits groups (recordsOf (now records) count)) held taken left (now why) × (head + n ≤ length (now list)) × (length (now list) ≤ 8192) ⌝ }
+    ensures { λ r. ⌜ Seeks (Fits groups (recordsOf (now (records .entry)) count)) held r × Same free (now (why .entry)) (now (why .exit))
+        × (length (now (list .exit)) ≡ length (now (list .entry))) ⌝ }
 {
-    match close(records, count, groups, free, taken, left, why) {
-        Closed::Shut { groups } => Sought::Nothing { groups },
-        Closed::Open { free, taken, left } => {
+    match closing::close(
+        records,
+        count,
+        groups,
+        fresh,
+        free,
+        taken,
+        left,
+        n,
+        list,
+        why,
+    ) {
+        Passed::Shut { groups } => Sought::Nothing { groups },
+        Passed::Open {
+            free,
+            taken,
+            left,
+            most,
+        } => {
             if free == 0 {
                 return leaf(records, count, held, taken);
             }
@@ -262,9 +83,12 @@ fn search(
                 count,
                 groups,
                 held + b,
+                b,
                 free - b,
                 taken + b,
                 left,
+                most,
+                list,
                 why,
             ) {
                 Sought::At { choice } => Sought::At { choice },
@@ -273,29 +97,62 @@ fn search(
                         return Sought::Nothing { groups: c };
                     }
                     why[i] = c - b;
-                    search(records, count, groups, held, free - b, taken, left + b, why)
+                    search(
+                        records,
+                        count,
+                        groups,
+                        held,
+                        b,
+                        free - b,
+                        taken,
+                        left + b,
+                        most,
+                        list,
+                        why,
+                    )
                 }
             }
         }
     }
 }
 
-// The seed, by a search that starts with no group decided.
-pub fn seek(records: &[u32], count: usize, groups: u32) -> Sought
-    requires { ⌜ (count ≤ room (now records)) × (groups ≤ width) ⌝ }
+// The list is arranged by a seed, from the highest group down.
+fn arrange_all(records: &[u32], count: usize, groups: u32, seed: u32, list: &mut [u16])
+    requires { ⌜ (count ≤ room (now records)) × (groups ≤ width) × (head ≤ length (now list)) × (length (now list) ≤ 8192) ⌝ }
+{
+    if groups == 0 {
+        return;
+    }
+    open_list::arrange(records, count, seed, groups - 1, list);
+}
+
+// The seed, by a search that starts with no group decided. All records may be open; the list is arranged for the search below this seed.
+pub fn seek(records: &[u32], count: usize, groups: u32, list: &mut [u16]) -> Sought
+    requires { ⌜ (count ≤ room (now records)) × (groups ≤ width) × (head ≤ length (now list)) × (length (now list) ≤ 8192) ⌝ }
     ensures { λ r. ⌜ soughtIs r ≡ seed groups (recordsOf (now (records .entry)) count) ⌝ }
 {
     let mut why = [0u32; choice::PLACES];
-    search(
+    open_list::fill(count, groups, list);
+    let n = open_list::listed(list);
+    match search(
         records,
         count,
         groups,
         0,
+        !0u32,
         choice::all(groups),
         0,
         0,
+        n,
+        list,
         &mut why,
-    )
+    ) {
+        Sought::Nothing { groups } => Sought::Nothing { groups },
+        Sought::At { choice } => {
+            arrange_all(records, count, groups, choice, list);
+            Sought::At { choice }
+        }
+    }
 }
 
 // What a group rests on along the last seed.
@@ -330,14 +187,15 @@ fn try_below(
     last: u32,
     ruled: u32,
     g: u32,
+    list: &mut [u16],
     why: &mut [u32],
 ) -> Sought
     requires { ⌜ (count ≤ room (now records)) × (groups ≤ width) × (groups ≤ length (now why)) × (g < groups) × (last < 2 ^ groups) × Along last groups g (now why)
         × ((z : ℕ) → Fits groups (recordsOf (now records) count) z → z < last)
         × ((z : ℕ) → Fits groups (recordsOf (now records) count) z → Inside ruled z → ⊥)
-        × Clear (Fits groups (recordsOf (now records) count)) last g ⌝ }
+        × Clear (Fits groups (recordsOf (now records) count)) last g × (head ≤ length (now list)) × (length (now list) ≤ 8192) ⌝ }
     ensures { λ r. ⌜ Tries (Fits groups (recordsOf (now (records .entry)) count)) last g r × Along last groups (suc g) (now (why .exit))
-        × (length (now (why .exit)) ≡ length (now (why .entry))) ⌝ }
+        × (length (now (why .exit)) ≡ length (now (why .entry))) × (length (now (list .exit)) ≡ length (now (list .entry))) ⌝ }
 {
     if !choice::has(last, g) {
         return Sought::Nothing { groups: ruled };
@@ -349,31 +207,69 @@ fn try_below(
     let free = choice::bit(g) - 1;
     let i = g as usize;
     why[i] = held;
+    let n = open_list::bound(g, list);
     search(
         records,
         count,
         groups,
         held,
+        !0u32,
         free,
         held,
         choice::all(groups) - held - free,
+        n,
+        list,
         why,
     )
 }
 
-// The seed below the last one, which every choice that fits is less than: those that agree with the last seed the longest come first.
-pub fn seek_below(records: &[u32], count: usize, groups: u32, last: u32) -> Sought
-    requires { ⌜ (count ≤ room (now records)) × (groups ≤ width) × (last < 2 ^ groups)
+// Groups of the last seed that no choice that fits contains: those that the newest record rests on, which rules the last seed out, or all of them.
+fn newest(records: &[u32], count: usize, groups: u32, last: u32, why: &mut [u32]) -> u32
+    requires { ⌜ (count ≤ room (now records)) × (groups ≤ width) × (groups ≤ length (now why)) × (last < 2 ^ groups) × Along last groups 0 (now why)
         × ((z : ℕ) → Fits groups (recordsOf (now records) count) z → z < last) ⌝ }
+    ensures { λ r. ⌜ ((z : ℕ) → Fits groups (recordsOf (now (records .entry)) count) z → Inside r z → ⊥) × Along last groups 0 (now (why .exit))
+        × (length (now (why .exit)) ≡ length (now (why .entry))) ⌝ }
+{
+    if count == 0 {
+        return last;
+    }
+    let left = choice::all(groups) - last;
+    match path::advance(records, count, count - 1, groups, 0, last, left, why) {
+        Closed::Shut { groups } => groups,
+        Closed::Open {
+            free: _,
+            taken: _,
+            left: _,
+        } => last,
+    }
+}
+
+// The newest record joins the list.
+fn join(count: usize, groups: u32, list: &mut [u16])
+    requires { ⌜ (groups ≤ width) × (head ≤ length (now list)) × (length (now list) ≤ 8192) ⌝ }
+    ensures { λ _. ⌜ length (now (list .exit)) ≡ length (now (list .entry)) ⌝ }
+{
+    if count == 0 {
+        return;
+    }
+    open_list::insert(count - 1, groups, list);
+}
+
+// The seed below the last one, which every choice that fits is less than: those that agree with the last seed the longest come first.
+pub fn seek_below(records: &[u32], count: usize, groups: u32, last: u32, list: &mut [u16]) -> Sought
+    requires { ⌜ (count ≤ room (now records)) × (groups ≤ width) × (last < 2 ^ groups)
+        × ((z : ℕ) → Fits groups (recordsOf (now records) count) z → z < last) × (head ≤ length (now list)) × (length (now list) ≤ 8192) ⌝ }
     ensures { λ r. ⌜ soughtIs r ≡ seed groups (recordsOf (now (records .entry)) count) ⌝ }
 {
     let mut why = [0u32; choice::PLACES];
     lay(last, groups, &mut why);
-    let mut ruled = last;
+    let mut ruled = newest(records, count, groups, last, &mut why);
+    join(count, groups, list);
     let mut g: u32 = 0;
     while g < groups {
-        match try_below(records, count, groups, last, ruled, g, &mut why) {
+        match try_below(records, count, groups, last, ruled, g, list, &mut why) {
             Sought::At { choice } => {
+                open_list::arrange(records, count, choice, g, list);
                 return Sought::At { choice };
             }
             Sought::Nothing { groups: c } => {

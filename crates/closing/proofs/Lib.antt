@@ -1,0 +1,2 @@
+-- Laws of passes over the records.
+pub mod Passes

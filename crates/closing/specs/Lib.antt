@@ -1,0 +1,2 @@
+-- What passes over the records decide.
+pub mod Passes

@@ -1,0 +1,2 @@
+-- Laws of the list of open records.
+pub mod Entries

@@ -1,0 +1,2 @@
+-- The list of open records.
+pub mod Entries

@@ -1,0 +1,3 @@
+-- Laws of what one record decides.
+pub mod Paths
+pub mod Pressing

@@ -1,0 +1,2 @@
+-- What one record decides.
+pub mod Paths

@@ -3,7 +3,7 @@
 --   Lacks, lacking-is                    the group that is given is the lowest that the choice names and the book lacks; none is given where there is none
 --   admit-refused, admit-lacks, admit-has      the three ways
 --   admitted-one                         the answer determines `Admitted`
---   twoOf, told-no, told-book            the answer that tells a refusal, and a book's two numbers
+--   threeOf, told-no, told-book          the answer that tells a refusal, and a book's three numbers
 --   admit-no, book-is                    and the other way round
 --   admits-read                          a book that is admitted was read
 --   choice-fits                          and the choice names groups of the book only
@@ -34,6 +34,7 @@ use Rattle.meaning.specs.Choice.{digit}
 use Rattle.meaning.proofs.Choices.{digit-of, digit-or, digit-high}
 use Rattle.book.specs.Bytes.{mostGroups}
 use Rattle.book.specs.Reading.{reading}
+use Rattle.book.specs.Check.{numbersOf}
 use Rattle.book.specs.Walk.{taken, bookOf, IsBook}
 use Rattle.admit.specs.Admits.{lackFrom, lacking, admits, admittedIs, workWords, zeros}
 use Rattle.admit.specs.declared.Admitted.{Admitted}
@@ -135,37 +136,38 @@ module _ (s : List ℕ) (x : ℕ) where
 -- ---- the answer of `admit`
 pub admitted-one : (a b : Admitted) → admittedIs a ≡ admittedIs b → a ≡ b
 unfolding admittedIs
-admitted-one (Admitted·v.Book v g) (Admitted·v.Book w h) e = cc
-admitted-one (Admitted·v.Book v g) (Admitted·v.Refused m p) e = let z : _≡_ {A = ℕ} 0 1 = cc in absurd (omega arith)
-admitted-one (Admitted·v.Refused n q) (Admitted·v.Book w h) e = let z : _≡_ {A = ℕ} 0 1 = cc in absurd (omega arith)
+admitted-one (Admitted·v.Book v g m) (Admitted·v.Book w h k) e = cc
+admitted-one (Admitted·v.Book v g k) (Admitted·v.Refused m p) e = let z : _≡_ {A = ℕ} 0 1 = cc in absurd (omega arith)
+admitted-one (Admitted·v.Refused n q) (Admitted·v.Book w h k) e = let z : _≡_ {A = ℕ} 0 1 = cc in absurd (omega arith)
 admitted-one (Admitted·v.Refused n q) (Admitted·v.Refused m p) e = cc
 
-abbrev pub twoOf : Book → Answer (List ℕ)
-twoOf b = answered (b .variables ∷ b .groups ∷ [])
+abbrev pub threeOf : Book → Answer (List ℕ)
+threeOf b = answered (numbersOf b)
 
-pub told-no : (a : Answer Book) (n at : ℕ) → a ≡ refused n at → admittedIs (Admitted·v.Refused n at) ≡ andThen a twoOf
+pub told-no : (a : Answer Book) (n at : ℕ) → a ≡ refused n at → admittedIs (Admitted·v.Refused n at) ≡ andThen a threeOf
 unfolding admittedIs
 told-no a n at e = sym (then-not a n at _ e)
 
-pub told-book : (a : Answer Book) (b : Book) (v g : ℕ) → a ≡ answered b → v ≡ b .variables → g ≡ b .groups → admittedIs (Admitted·v.Book v g) ≡ andThen a twoOf
+pub told-book : (a : Answer Book) (b : Book) (v g m : ℕ) → a ≡ answered b → v ≡ b .variables → g ≡ b .groups → m ≡ length (b .clauses) → admittedIs (Admitted·v.Book v g m) ≡ andThen a threeOf
 unfolding admittedIs
-told-book a b v g e ev eg = sym (then-by a b _ e ∙ simp (ev, eg))
+told-book a b v g m e ev eg em = sym (then-by a b _ e ∙ simp (ev, eg, em))
 
-pub admit-no : (a : Answer Book) (n at : ℕ) → admittedIs (Admitted·v.Refused n at) ≡ andThen a twoOf → a ≡ refused n at
+pub admit-no : (a : Answer Book) (n at : ℕ) → admittedIs (Admitted·v.Refused n at) ≡ andThen a threeOf → a ≡ refused n at
 unfolding admittedIs andThen
 admit-no (answered b) n at e = let z : _≡_ {A = ℕ} 0 1 = cc in absurd (omega arith)
 admit-no (refused m p) n at e = cc
 
-pub book-is : (a : Answer Book) (v g : ℕ) → admittedIs (Admitted·v.Book v g) ≡ andThen a twoOf → (b : Book) × (a ≡ answered b) × (v ≡ b .variables) × (g ≡ b .groups)
+pub book-is : (a : Answer Book) (v g m : ℕ) → admittedIs (Admitted·v.Book v g m) ≡ andThen a threeOf → (b : Book) × (a ≡ answered b) × (v ≡ b .variables) × (g ≡ b .groups) × (m ≡ length (b .clauses))
 unfolding admittedIs andThen
-book-is (answered b) v g e = (b, refl, cc, cc)
-book-is (refused m p) v g e = let z : _≡_ {A = ℕ} 0 1 = cc in absurd (omega arith)
+book-is (answered b) v g m e = (b, refl, cc, cc, cc)
+book-is (refused n p) v g m e = let z : _≡_ {A = ℕ} 0 1 = cc in absurd (omega arith)
 
-pub record Granted (s : List ℕ) (x v g : ℕ) : Type 0 where
+pub record Granted (s : List ℕ) (x v g m : ℕ) : Type 0 where
   pub is : IsBook s
   pub has : admits s x ≡ answered (bookOf s)
   pub variables : v ≡ bookOf s .variables
   pub groups : g ≡ bookOf s .groups
+  pub clauses : m ≡ length (bookOf s .clauses)
 
 pub admits-read : (s : List ℕ) (x : ℕ) (b : Book) → admits s x ≡ answered b → reading s ≡ answered b
 unfolding admits
@@ -197,10 +199,10 @@ choice-fits s x b h e =
     go g z (inl w) = w .1
     go g z (inr L) = absurd (omega (arith, z, L .above))
 
-pub admit-book : (s : List ℕ) (x v g : ℕ) → Bytes s → admittedIs (Admitted·v.Book v g) ≡ andThen (admits s x) twoOf → Granted s x v g
+pub admit-book : (s : List ℕ) (x v g m : ℕ) → Bytes s → admittedIs (Admitted·v.Book v g m) ≡ andThen (admits s x) threeOf → Granted s x v g m
 unfolding bookOf taken
-admit-book s x v g bytes e =
-    let t = book-is (admits s x) v g e in
+admit-book s x v g m bytes e =
+    let t = book-is (admits s x) v g m e in
     let r : reading s ≡ answered (t .0) = admits-read s x (t .0) (t .1) in
     let b : bookOf s ≡ t .0 = ap taken r in
     record {
@@ -208,6 +210,7 @@ admit-book s x v g bytes e =
       has = t .1 ∙ ap answered (sym b);
       variables = t .2 ∙ ap (λ (k : Book). k .variables) (sym b);
       groups = t .3 ∙ ap (λ (k : Book). k .groups) (sym b);
+      clauses = t .4 ∙ ap (λ (k : Book). length (k .clauses)) (sym b);
     }
 
 -- ---- clearing

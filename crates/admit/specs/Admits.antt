@@ -2,7 +2,7 @@
 --   lackFrom k g x     the lowest group above g that the choice x names, of the next k groups; 0 if there is none
 --   lacking g x        the lowest group, of the 32 there can be, that the choice names and a book of g groups lacks; 0 if there is none
 --   admits s x         the book that s is, where it has every group that the choice names; else the refusal, the book's before 10
---   admittedIs r       the answer that `Admitted` is: variables and groups, or the refusal's number and place
+--   admittedIs r       the answer that `Admitted` is: variables, groups and clauses, or the refusal's number and place
 --   workWords          how many words of working space a call needs
 --   zeros              what it leaves in them
 -- Assumes nothing: these are definitions.
@@ -30,7 +30,7 @@ unfoldable pub admits : List ℕ → ℕ → Answer Book
 admits s x = andThen (reading s) (λ b. unless (first ((not (eqb (lacking (b .groups) x) 0) ⇒ 10) ∷ [])) (lacking (b .groups) x) (answered b))
 
 unfoldable pub admittedIs : Admitted → Answer (List ℕ)
-admittedIs (Admitted·v.Book v g) = answered (v ∷ g ∷ [])
+admittedIs (Admitted·v.Book v g m) = answered (v ∷ g ∷ m ∷ [])
 admittedIs (Admitted·v.Refused n at) = refused n at
 
 abbrev pub workWords : ℕ

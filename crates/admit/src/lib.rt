@@ -1,10 +1,10 @@
 // What stands before every call on a book and a choice: the book's refusals, and 10; and the working space, cleared.
 ghost use mathlib.Core.Path.{_≡_};
-ghost use mathlib.Core.List.{[], _∷_};
 ghost use Prim.Native.Nat.{_≤_};
 ghost use lib.ListN.{length, replicate};
 ghost use Rattle.answer.specs.Answer.{answered, andThen};
 ghost use Rattle.answer.specs.Space.{over};
+ghost use Rattle.book.specs.Check.{numbersOf};
 ghost use Rattle.admit.specs.Admits.{lacking as lacking', admits, admittedIs};
 use book::Checked;
 use book::MOST_GROUPS;
@@ -13,8 +13,15 @@ use book::MOST_GROUPS;
 pub const WORK_WORDS: usize = 8192;
 
 pub enum Admitted {
-    Book { variables: u16, groups: u16 },
-    Refused { number: u8, place: usize },
+    Book {
+        variables: u16,
+        groups: u16,
+        clauses: u16,
+    },
+    Refused {
+        number: u8,
+        place: usize,
+    },
 }
 
 // The lowest group that the choice names and a book of so many groups lacks; 0 if there is none.
@@ -35,14 +42,14 @@ fn lacking(groups: u16, choice: u32) -> u16
 
 // Whether some bytes are a book that has every group of a choice: its numbers, or the refusal.
 pub fn admit(book: &[u8], choice: u32) -> Admitted
-    ensures { λ r. ⌜ admittedIs r ≡ andThen (admits (now (book .entry)) choice) (λ b. answered (b .variables ∷ b .groups ∷ [])) ⌝ }
+    ensures { λ r. ⌜ admittedIs r ≡ andThen (admits (now (book .entry)) choice) (λ b. answered (numbersOf b)) ⌝ }
 {
     match book::check(book) {
         Checked::Refused { number, place } => Admitted::Refused { number, place },
         Checked::Book {
             variables,
             groups,
-            clauses: _,
+            clauses,
         } => {
             let g = lacking(groups, choice);
             if g != 0 {
@@ -51,7 +58,11 @@ pub fn admit(book: &[u8], choice: u32) -> Admitted
                     place: g as usize,
                 };
             }
-            Admitted::Book { variables, groups }
+            Admitted::Book {
+                variables,
+                groups,
+                clauses,
+            }
         }
     }
 }

@@ -1,45 +1,25 @@
 -- The working space on the way to an answer, and the marks as bytes.
---   front-clear         the front of a cleared space is 0
---   begins              so the marks may be begun there
 --   forced-front, forced-flags, forced-length      the marks after forcing, as the other functions ask for them
 --   goal-is, out-is     the lowest broken goal, and the bytes, by those marks
---   cleared-after       the space, cleared before and after
+--   cleared-after       the space, cleared afterwards
 --   copy-next, copy-all      one mark more written, and all of them
 -- Assumes nothing.
-use Prim.Native.Nat.{ℕ, zero, suc, _+_, _≤_, _<_}
+use Prim.Native.Nat.{ℕ, zero, suc, _+_, _<_}
 use mathlib.Core.Path.{_≡_, refl, sym, ap, _∙_, subst}
 use mathlib.Core.List.{List, [], _∷_, _++_}
 use native.Mathlib.Omega.{arith}
 use native.Mathlib.Numerals.{add-one}
-use lib.ListN.{length, getD, take, drop, set, replicate, length-replicate}
-use lib.Seq.{take-length, take-append-le, drop-append-seam}
+use lib.ListN.{length, getD, take, drop, set, replicate}
+use lib.Seq.{take-length}
 use Rattle.answer.specs.Space.{over}
 use Rattle.meaning.specs.Forced.{lowest, forcedIn, brokenIn}
-use Rattle.meaning.specs.Marks.{Flags, Partly}
-use Rattle.meaning.proofs.Forced.{partly-none, forced-partly}
+use Rattle.meaning.specs.Marks.{Flags}
+use Rattle.meaning.proofs.Forced.{forced-partly}
 use Rattle.book.specs.Walk.{bookOf, IsBook}
 use Rattle.marks.proofs.Walks.{heads}
-use Rattle.queue.specs.Forcing.{Forcing}
+use Rattle.forcing.specs.Forcing.{Forcing}
 use Rattle.admit.specs.Admits.{zeros}
 use Rattle.admit.proofs.Admits.{cleared-again}
-
-take-zeros : (n v : ℕ) → v ≤ n → take {A = ℕ} v (replicate n 0) ≡ replicate v 0
-take-zeros n zero h = refl
-take-zeros zero (suc v) h = absurd (omega arith)
-take-zeros (suc n) (suc v) h = ap (λ (t : List ℕ). 0 ∷ t) (take-zeros n v (omega arith))
-
--- a space is cleared
-module _ (n : ℕ) (w w₁ : List ℕ) (is : w₁ ≡ over (replicate n 0) w) where
-  pub front-clear : (v : ℕ) → v ≤ n → take v w₁ ≡ replicate v 0
-  front-clear v h = ap (take v) is ∙ take-append-le v (replicate n 0) _ (omega (arith, length-replicate {A = ℕ} n 0)) ∙ take-zeros n v h
-
-  rest-clear : drop n w₁ ≡ drop n w
-  rest-clear =
-      ap (drop n) is ∙ ap (λ (k : ℕ). drop k (over (replicate n 0) w)) (sym (length-replicate {A = ℕ} n 0)) ∙ drop-append-seam (replicate n 0) _
-      ∙ ap (λ (k : ℕ). drop k w) (length-replicate {A = ℕ} n 0)
-
-pub begins : (s : List ℕ) (x v : ℕ) (f : List ℕ) → v ≡ bookOf s .variables → f ≡ replicate v 0 → Partly (bookOf s) x f
-begins s x v f ev e = subst (Partly (bookOf s) x) (sym (e ∙ ap (λ (k : ℕ). replicate k 0) ev)) (partly-none (bookOf s) x)
 
 -- the marks after forcing
 module _ (s : List ℕ) (x v : ℕ) (w w′ : List ℕ) (is : IsBook s) (ev : v ≡ bookOf s .variables) (F : Forcing s x w w′) where
@@ -56,8 +36,8 @@ module _ (s : List ℕ) (x v : ℕ) (w w′ : List ℕ) (is : IsBook s) (ev : v 
   unfolding brokenIn
   goal-is n e = e ∙ ap (λ (f : List ℕ). lowest x f 1 (bookOf s .clauses)) forced-front
 
-  pub cleared-after : (w₀ w₃ : List ℕ) → w ≡ over (replicate 8192 0) w₀ → w₃ ≡ over (replicate 8192 0) w′ → w₃ ≡ over zeros w₀
-  cleared-after w₀ w₃ first again = cleared-again 8192 w₀ w′ w₃ refl (F .rest ∙ rest-clear 8192 w₀ w first) again
+  pub cleared-after : (w₃ : List ℕ) → w₃ ≡ over (replicate 8192 0) w′ → w₃ ≡ over zeros w
+  cleared-after w₃ e = cleared-again 8192 w w′ w₃ refl (F .rest) e
 
   pub out-is : (out out′ : List ℕ) → out′ ≡ over (take v w′) out → out′ ≡ over (forcedIn (bookOf s) x) out
   out-is out out′ e = e ∙ ap (λ (f : List ℕ). over f out) forced-front

@@ -41,7 +41,7 @@ module _ (s : List ℕ) (x room words : ℕ) where
   unfolding asks
   asks-no n at e = then-not _ n at _ e
 
-  module _ (v g : ℕ) (H : Granted s x v g) where
+  module _ (v g m : ℕ) (H : Granted s x v g m) where
     pub asks-short : room < v → asks s x room words ≡ refused 11 0
     unfolding asks first
     asks-short h =

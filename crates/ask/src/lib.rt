@@ -5,7 +5,8 @@ ghost use lib.ListN.{length};
 ghost use Rattle.answer.specs.Space.{over};
 ghost use Rattle.meaning.specs.Forced.{forcedIn, brokenIn};
 ghost use Rattle.meaning.specs.Marks.{Flags};
-ghost use Rattle.book.specs.Walk.{bookOf, IsBook};
+ghost use Rattle.book.specs.Walk.{bookOf};
+ghost use Rattle.table.specs.Table.{Sized};
 ghost use Rattle.admit.specs.Admits.{zeros};
 ghost use Rattle.ask.specs.Asks.{asks, Asking};
 use admit::Admitted;
@@ -29,19 +30,25 @@ fn put_forced(marks: &[u16], out: &mut [u8])
     }
 }
 
-// The lowest broken goal of a choice, or 0, with the forced variables written. Whatever the working space holds, it is cleared before and after.
-fn answer(book: &[u8], choice: u32, variables: u16, out: &mut [u8], work: &mut [u16]) -> u16
-    requires { ⌜ IsBook (now book) × (variables ≡ bookOf (now book) .variables) × (variables ≤ length (now out)) × (8192 ≤ length (now work)) ⌝ }
+// The lowest broken goal of a choice, or 0, with the forced variables written. Whatever the working space holds, it is cleared afterwards.
+fn answer(
+    book: &[u8],
+    choice: u32,
+    variables: u16,
+    clauses: u16,
+    out: &mut [u8],
+    work: &mut [u16],
+) -> u16
+    requires { ⌜ Sized (now book) variables clauses × (variables ≤ length (now out)) × (8192 ≤ length (now work)) ⌝ }
     ensures { λ r. ⌜ (r ≡ brokenIn (bookOf (now (book .entry))) choice)
         × (now (out .exit) ≡ over (forcedIn (bookOf (now (book .entry))) choice) (now (out .entry)))
         × (now (work .exit) ≡ over zeros (now (work .entry))) ⌝ }
 {
     let v = variables as usize;
-    admit::clear(work, WORK_WORDS);
-    queue::force(book, choice, variables, work);
+    forcing::force(book, choice, variables, clauses, work);
     let n = marks::lowest_broken(book, choice, &work[..v]);
     put_forced(&work[..v], out);
-    admit::clear(work, admit::WORK_WORDS);
+    admit::clear(work, WORK_WORDS);
     n
 }
 
@@ -55,6 +62,7 @@ pub fn ask(book: &[u8], choice: u32, out: &mut [u8], work: &mut [u16]) -> Asked
         Admitted::Book {
             variables,
             groups: _,
+            clauses,
         } => {
             if out.len() < variables as usize {
                 return Asked::Refused {
@@ -68,7 +76,7 @@ pub fn ask(book: &[u8], choice: u32, out: &mut [u8], work: &mut [u16]) -> Asked
                     place: 0,
                 };
             }
-            let clause = answer(book, choice, variables, out, work);
+            let clause = answer(book, choice, variables, clauses, out, work);
             if clause == 0 {
                 return Asked::Consistent;
             }

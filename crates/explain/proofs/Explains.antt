@@ -49,7 +49,7 @@ module _ (s : List ℕ) (x words : ℕ) where
   unfolding explains
   explains-no n at e = then-not _ n at _ e
 
-  module _ (v g : ℕ) (H : Granted s x v g) where
+  module _ (v g m : ℕ) (H : Granted s x v g m) where
     pub explains-tight : words < workWords → explains s x words ≡ refused 11 0
     unfolding explains first
     explains-tight h =

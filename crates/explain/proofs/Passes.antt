@@ -8,7 +8,8 @@
 --   within-is-none, within-is-some      the two answers
 --   within-none               at the start: no group breaks
 --   inserting-start, Next, inserting-next, inserting-end      ... and else: the start, a pass and the end
---   next-apart, next-settling, next-again, next-falls      the pass, by the weight of its group
+--   next-apart, next-kept, next-again, next-falls      the pass, by the weight of its group
+--   kept-after                the working space after one pass and another
 -- Assumes nothing.
 use Prim.Native.Nat.{ℕ, zero, suc, _+_, _-_, _*_, _/_, _%_, _^_, _≤_, _<_}
 use mathlib.Core.Path.{_≡_, refl, sym, ap, _∙_, subst}
@@ -35,8 +36,10 @@ use Rattle.book.specs.Bytes.{mostGroups}
 use Rattle.book.specs.Walk.{bookOf, IsBook}
 use Rattle.book.proofs.Walk.{well-formed}
 use Rattle.marks.proofs.Walks.{heads}
-use Rattle.levels.specs.Levels.{carried, Settling, GoalLevel}
-use Rattle.levels.proofs.Carrying.{settling-carried}
+use Rattle.levels.specs.Levels.{GoalLevel}
+use Rattle.table.specs.Table.{Sized, Prepared, Kept}
+use Rattle.queue.specs.Turns.{Carrying}
+use Rattle.queue.proofs.Turns.{prepared-kept}
 use Rattle.explain.specs.Explains.{reachFrom, transition, explained, withinIs}
 use Rattle.explain.specs.declared.Within.the-variants as Within·v
 
@@ -220,15 +223,19 @@ module _ (b : Book) (x kept pool level : ℕ) (N : Next b x kept pool level) (w 
   pub next-apart : Apart (kept + w) (pool % w)
   next-apart = subst (λ (p : ℕ). Apart (kept + p) (pool % p)) (sym is) (N .apart)
 
-  -- the levels carried on by the group g that was found
-  pub next-settling : (g : ℕ) (f f′ : List ℕ) → g ≡ level → f′ ≡ carried g f → Settling b kept pool f → Settling b (kept + w) (pool % w) f′
-  next-settling g f f′ e q S =
-      subst (Settling b (kept + w) (pool % w)) (sym (q ∙ ap (λ (k : ℕ). carried k f) e))
-      (settling-carried b kept pool level w f (N .before) (N .some) (N .most) (N .arrives) is S)
-
   pub next-again : (r : ℕ) → GoalLevel b (kept + w) (pool % w) r → Inserting b x (kept + w) (pool % w) r
   next-again r G =
       subst (λ (p : ℕ). Inserting b x (kept + p) (pool % p) r) (sym is) (N .again r (subst (λ (p : ℕ). GoalLevel b (kept + p) (pool % p) r) is G))
 
   pub next-falls : (r : ℕ) → GoalLevel b (kept + w) (pool % w) r → r < level
   next-falls r G = N .falls r (subst (λ (p : ℕ). GoalLevel b (kept + p) (pool % p) r) is G)
+
+-- ---- the working space
+pub kept-after : (s : List ℕ) (kept pool kept′ pool′ : ℕ) (w u w′ : List ℕ) → Kept s kept pool w u → Kept s kept′ pool′ u w′ → Kept s kept′ pool′ w w′
+kept-after s kept pool kept′ pool′ w u w′ K L = record { ready = L .ready; rest = L .rest ∙ K .rest; long = L .long ∙ K .long }
+
+-- carried on by the group g that was found, which is the level
+pub next-kept : (s : List ℕ) (v m x kept pool level : ℕ) → Next (bookOf s) x kept pool level → (w : ℕ) → w ≡ 2 ^ (level - 1) → (g : ℕ) (u u′ : List ℕ) → Sized s v m → g ≡ level
+    → Carrying g v m u u′ → Prepared s kept pool u → Kept s (kept + w) (pool % w) u u′
+next-kept s v m x kept pool level N w is g u u′ Z e C P =
+    prepared-kept s v m Z kept pool u u′ P level w (N .before) (N .some) (N .most) (N .arrives) is (subst (λ (k : ℕ). Carrying k v m u u′) e C)

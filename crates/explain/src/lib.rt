@@ -2,10 +2,11 @@
 // from the lowest on; the first whose arrival breaks consistency is kept, and only the groups below it are left for the next pass.
 ghost use mathlib.Core.Path.{_≡_};
 ghost use Prim.Native.Nat.{_-_, _≤_, _<_, _^_};
-ghost use lib.ListN.{length};
+ghost use lib.ListN.{length, drop};
 ghost use Rattle.answer.specs.Space.{over};
 ghost use Rattle.book.specs.Bytes.{mostGroups};
-ghost use Rattle.book.specs.Walk.{bookOf, IsBook};
+ghost use Rattle.book.specs.Walk.{bookOf};
+ghost use Rattle.table.specs.Table.{Sized};
 ghost use Rattle.admit.specs.Admits.{workWords, zeros};
 ghost use Rattle.explain.specs.Explains.{transition as transition', explained, withinIs, explains, Explaining};
 use admit::Admitted;
@@ -53,13 +54,21 @@ fn weight(group: u16) -> u32
     choice::bit((group - 1) as u32)
 }
 
-// The smallest explanation within a choice. What the levels hold does not matter, before and after.
-pub fn smallest_within(book: &[u8], groups: u16, choice: u32, levels: &mut [u16]) -> Within
-    requires { ⌜ IsBook (now book) × (groups ≡ bookOf (now book) .groups) × (choice < 2 ^ groups) × (length (now levels) ≡ bookOf (now book) .variables) ⌝ }
-    ensures { λ r. ⌜ withinIs r ≡ explained (bookOf (now (book .entry))) choice ⌝ }
+// The smallest explanation within a choice. What the first words of the working space hold does not matter to it, before and after; the variables that they
+// leave aside stay so.
+pub fn smallest_within(
+    book: &[u8],
+    variables: u16,
+    groups: u16,
+    clauses: u16,
+    choice: u32,
+    work: &mut [u16],
+) -> Within
+    requires { ⌜ Sized (now book) variables clauses × (groups ≡ bookOf (now book) .groups) × (choice < 2 ^ groups) × (workWords ≤ length (now work)) ⌝ }
+    ensures { λ r. ⌜ (withinIs r ≡ explained (bookOf (now (book .entry))) choice) × (drop workWords (now (work .exit)) ≡ drop workWords (now (work .entry))) ⌝ }
 {
-    levels::fill(levels);
-    let mut level = levels::goal_level(book, 0, choice, levels);
+    table::lay(book, 0, choice, variables, clauses, work);
+    let mut level = queue::goal_level(book, 0, choice, false, variables, clauses, work);
     if groups < level {
         return Within::Consistent;
     }
@@ -70,19 +79,26 @@ pub fn smallest_within(book: &[u8], groups: u16, choice: u32, levels: &mut [u16]
         let w = weight(group);
         kept += w;
         pool = pool % w;
-        levels::carry(group, levels);
-        level = levels::goal_level(book, kept, pool, levels);
+        queue::keep(group, variables, clauses, work);
+        level = queue::goal_level(book, kept, pool, true, variables, clauses, work);
     }
     Within::Smallest { groups: kept }
 }
 
-// The same with levels in the front of the working space, which is cleared afterwards.
-fn answer(book: &[u8], variables: u16, groups: u16, choice: u32, work: &mut [u16]) -> Within
-    requires { ⌜ IsBook (now book) × (variables ≡ bookOf (now book) .variables) × (groups ≡ bookOf (now book) .groups) × (choice < 2 ^ groups) × (workWords ≤ length (now work)) ⌝ }
+// The same for one choice alone: no variable is left aside, and the working space is cleared afterwards.
+fn answer(
+    book: &[u8],
+    variables: u16,
+    groups: u16,
+    clauses: u16,
+    choice: u32,
+    work: &mut [u16],
+) -> Within
+    requires { ⌜ Sized (now book) variables clauses × (groups ≡ bookOf (now book) .groups) × (choice < 2 ^ groups) × (workWords ≤ length (now work)) ⌝ }
     ensures { λ r. ⌜ (withinIs r ≡ explained (bookOf (now (book .entry))) choice) × (now (work .exit) ≡ over zeros (now (work .entry))) ⌝ }
 {
-    let v = variables as usize;
-    let found = smallest_within(book, groups, choice, &mut work[..v]);
+    lists::leave_none_aside(variables, clauses, work);
+    let found = smallest_within(book, variables, groups, clauses, choice, work);
     admit::clear(work, WORK_WORDS);
     found
 }
@@ -93,14 +109,18 @@ pub fn explain(book: &[u8], choice: u32, work: &mut [u16]) -> Explained
 {
     match admit::admit(book, choice) {
         Admitted::Refused { number, place } => Explained::Refused { number, place },
-        Admitted::Book { variables, groups } => {
+        Admitted::Book {
+            variables,
+            groups,
+            clauses,
+        } => {
             if work.len() < WORK_WORDS {
                 return Explained::Refused {
                     number: 11,
                     place: 0,
                 };
             }
-            match answer(book, variables, groups, choice, work) {
+            match answer(book, variables, groups, clauses, choice, work) {
                 Within::Consistent => Explained::Consistent,
                 Within::Smallest { groups } => Explained::Explanation { groups },
             }

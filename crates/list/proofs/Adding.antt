@@ -26,7 +26,7 @@ use Rattle.rounds.proofs.Seeds.{seed-lt, complete-none, complete-some}
 use Rattle.rounds.proofs.Rounds.{allowed-falls, listing-zero, listing-next, listing-still}
 use Rattle.records.specs.Words.{recordWords, room, recordsOf, kindOf, setOf, wordsOf, putRecord, fault}
 use Rattle.records.proofs.Words.{words-length, length-records, record-back, records-read, records-kept, record-put}
-use Rattle.seek.specs.Paths.{Fits}
+use Rattle.path.specs.Paths.{Fits}
 use Rattle.explain.specs.Explains.{explained, withinIs}
 use Rattle.explain.specs.declared.Within.the-variants as Within·v
 use Rattle.list.specs.Lists.{listedIs, rounds, said, Adds, Rounding}

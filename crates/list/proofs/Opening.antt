@@ -27,7 +27,7 @@ use Rattle.book.specs.Walk.{taken, bookOf, IsBook}
 use Rattle.admit.specs.Admits.{admittedIs, workWords}
 use Rattle.admit.specs.declared.Admitted.{Admitted}
 use Rattle.admit.specs.declared.Admitted.the-variants as Admitted·v
-use Rattle.admit.proofs.Admits.{admitted-one, twoOf, book-is}
+use Rattle.admit.proofs.Admits.{admitted-one, threeOf, book-is}
 use Rattle.list.specs.Lists.{opens, lists}
 
 -- whole records stand before the place: fewer than c where it lies within the first c, and not where it is their end
@@ -82,7 +82,7 @@ module _ (s ws : List ℕ) (c : ℕ) where
           ∙ unless-none _ _ _ (fails (fault (bookOf s .groups) ws c) (recordWords * c) 14 (omega (arith, same, h)))
 
 -- ---- the answer of `open`
-pub open-one : (a : Answer Book) (r r′ : Admitted) → admittedIs r ≡ andThen a twoOf → admittedIs r′ ≡ andThen a twoOf → r ≡ r′
+pub open-one : (a : Answer Book) (r r′ : Admitted) → admittedIs r ≡ andThen a threeOf → admittedIs r′ ≡ andThen a threeOf → r ≡ r′
 open-one a r r′ p q = admitted-one r r′ (p ∙ sym q)
 
 pub record Opened (s ws : List ℕ) (c : ℕ) : Type 0 where
@@ -110,11 +110,12 @@ opened s ws c b bytes e =
       k,
     )
 
-pub open-book : (s ws : List ℕ) (c v g : ℕ) → Bytes s → admittedIs (Admitted·v.Book v g) ≡ andThen (opens s ws c) twoOf → Opened s ws c × (v ≡ bookOf s .variables) × (g ≡ bookOf s .groups)
-open-book s ws c v g bytes e =
-    let t = book-is (opens s ws c) v g e in
+pub open-book : (s ws : List ℕ) (c v g m : ℕ) → Bytes s → admittedIs (Admitted·v.Book v g m) ≡ andThen (opens s ws c) threeOf
+    → Opened s ws c × (v ≡ bookOf s .variables) × (g ≡ bookOf s .groups) × (m ≡ length (bookOf s .clauses))
+open-book s ws c v g m bytes e =
+    let t = book-is (opens s ws c) v g m e in
     let o = opened s ws c (t .0) bytes (t .1) in
-    (o .0, t .2 ∙ ap (λ (b : Book). b .variables) (sym (o .1)), t .3 ∙ ap (λ (b : Book). b .groups) (sym (o .1)))
+    (o .0, t .2 ∙ ap (λ (b : Book). b .variables) (sym (o .1)), t .3 ∙ ap (λ (b : Book). b .groups) (sym (o .1)), t .4 ∙ ap (λ (b : Book). length (b .clauses)) (sym (o .1)))
 
 -- ---- a call
 module _ (s ws : List ℕ) (c words : ℕ) where

@@ -28,7 +28,7 @@ returns-2 : tie.Need-returns-2
 returns-2 c = told-no _ _ _ (admit-refused _ _ _ _ (check-refused _ _ _ (sym (ap checkedIs (c .before .number .given .1)) ∙ c .before .before .before .check .ensures)))
 
 returns-3 : tie.Need-returns-3
-returns-3 c = let k = accepted (c .before .before .before) in told-book _ _ _ _ (admit-has _ _ (k .is .read) _ _ (k .groups) (c .before .lacking .ensures) (c .if1 .left)) (k .variables) (k .groups)
+returns-3 c = let k = accepted (c .before .before .before) in told-book _ _ _ _ _ (admit-has _ _ (k .is .read) _ _ (k .groups) (c .before .lacking .ensures) (c .if1 .left)) (k .variables) (k .groups) (k .clauses)
 
 pub admit-spec : {M : Type 1} → statement M
 admit-spec =

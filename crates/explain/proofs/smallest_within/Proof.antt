@@ -1,24 +1,23 @@
--- `explain::smallest_within` meets its contract. The loop's invariant is `Inserting`, of `Passes.antt`, with levels that are not too low; the level falls.
+-- `explain::smallest_within` meets its contract. The loop's invariant is `Inserting`, of `Passes.antt`, with a working space that is ready; the level falls.
 -- Assumes nothing.
 use Prim.Native.Nat.{ℕ, _-_, _^_}
 use mathlib.Core.Path.{_≡_, ap, _∙_}
 use native.Mathlib.Omega.{arith}
 use denote.Ref.{now}
-use lib.ListN.{length, replicate}
 use lib.Pow.{pow-pos}
 use Rattle.book.specs.Walk.{bookOf}
-use Rattle.levels.specs.Levels.{never, Settling}
-use Rattle.levels.proofs.Walks.{falling-start}
-use Rattle.explain.proofs.Passes.{Inserting, Next, within-is-none, within-is-some, none-apart, within-none, inserting-start, inserting-next, inserting-end, next-apart, next-settling, next-again, next-falls}
+use Rattle.table.specs.Table.{Kept}
+use Rattle.table.proofs.Stores.{kept-none, room}
+use Rattle.explain.proofs.Passes.{Inserting, Next, within-is-none, within-is-some, none-apart, within-none, inserting-start, inserting-next, inserting-end, next-apart, next-kept, next-again, next-falls, kept-after}
 use borrow.Author.Needs.{needs}
 use Rattle.explain.proofs.smallest_within.Statement.{statement}
 use Rattle.explain.proofs.smallest_within.Tie as tie
 
 abbrev Inv-loop : tie.InvT-loop
-Inv-loop book groups choice levels₀ level₀ kept₀ pool₀ levels level kept pool = (length levels ≡ bookOf book .variables) × Settling (bookOf book) kept pool levels × Inserting (bookOf book) choice kept pool level
+Inv-loop book variables groups clauses choice work₀ level₀ kept₀ pool₀ work level kept pool = Kept book kept pool work₀ work × Inserting (bookOf book) choice kept pool level
 
 abbrev μ-loop : tie.MeasureT-loop
-μ-loop book groups choice levels₀ level₀ kept₀ pool₀ levels level kept pool = level
+μ-loop book variables groups clauses choice work₀ level₀ kept₀ pool₀ work level kept pool = level
 
 -- a pass begins
 next : (c : tie.After-transition Inv-loop μ-loop)
@@ -27,7 +26,7 @@ next : (c : tie.After-transition Inv-loop μ-loop)
     Next (bookOf (now (a .book))) (a .choice) (l .kept) (l .pool) (l .level)
 next c =
     let p = c .before .before .before .before .before .before .before .before .before .before .before .before .before .before .pre in
-    inserting-next _ (p .0) _ _ (p .1) (p .2) _ _ _ (c .before .before .loop .inv .2) (c .before .loop-test .taken)
+    inserting-next _ (p .0 .book) _ _ (p .1) (p .2) _ _ _ (c .before .before .loop .inv .1) (c .before .loop-test .taken)
 
 -- its group is the level, with the weight that goes with it
 own : (c : tie.After-transition Inv-loop μ-loop) → c .transition .result ≡ c .before .before .loop .level
@@ -37,21 +36,19 @@ size : (c : tie.After-weight Inv-loop μ-loop) → c .weight .result ≡ 2 ^ (c 
 size c = c .weight .ensures ∙ ap (λ (g : ℕ). 2 ^ (g - 1)) (own (c .before))
 
 goal-level-requires : tie.Need-goal-level-requires Inv-loop μ-loop
-goal-level-requires c κs =
-    let p = c .before .before .before .before .before .before .before .pre in
-    let f = c .before .before .before .fill in
-    (p .0, none-apart _, omega (arith, f .kept .0, p .3), falling-start _ _ _ _ (f .ensures ∙ ap (λ (n : ℕ). replicate n never) (p .3)))
+goal-level-requires c κs = (c .before .before .before .before .before .before .before .pre .0, none-apart _, c .before .before .before .lay .ensures .ready)
 
 returns : tie.Need-returns Inv-loop μ-loop
 returns c =
     let p = c .before .before .before .before .before .before .before .before .before .before .before .pre in
-    within-is-none (within-none _ (p .0) _ _ (p .1) (p .2) _ (c .before .before .before .goal-level .ensures .0) (c .if1 .taken))
+    let g = c .before .before .before .goal-level .ensures in
+    (within-is-none (within-none _ (p .0 .book) _ _ (p .1) (p .2) _ (g .0) (c .if1 .taken)), g .1 .rest ∙ c .before .before .before .before .before .before .before .lay .ensures .rest)
 
 loop-holds : tie.Need-loop-holds Inv-loop μ-loop
 loop-holds c =
     let p = c .before .before .before .before .before .before .before .before .before .before .before .pre in
-    let g = c .before .before .before .goal-level in
-    (omega (arith, g .kept .1 .1 .1 .0, c .before .before .before .before .before .before .before .fill .kept .0, p .3), g .ensures .1, inserting-start _ (p .0) _ _ (p .1) (p .2) _ (g .ensures .0) (c .if1 .left))
+    let g = c .before .before .before .goal-level .ensures in
+    (kept-none _ _ _ _ (g .1 .ready), inserting-start _ (p .0 .book) _ _ (p .1) (p .2) _ (g .0) (c .if1 .left))
 
 weight-requires : tie.Need-weight-requires Inv-loop μ-loop
 weight-requires c κs = (omega (arith, next c .some, own c), omega (arith, next c .most, own c))
@@ -62,38 +59,42 @@ add-kept c = omega (arith, next (c .before) .fits, size c, c .before .before .be
 rem-pool : tie.Need-rem-pool Inv-loop μ-loop
 rem-pool c = omega (arith, size c, pow-pos (c .before .before .before .loop .level - 1))
 
-carry-requires : tie.Need-carry-requires Inv-loop μ-loop
-carry-requires c κs = omega (arith, next (c .before .before) .some, own (c .before .before))
+keep-requires : tie.Need-keep-requires Inv-loop μ-loop
+keep-requires c κs =
+    let n = next (c .before .before) in
+    let o = own (c .before .before) in
+    (omega (arith, n .some, o), omega (arith, n .most, o), room _ _ _ (c .before .before .before .before .before .before .before .before .before .before .before .before .before .before .before .before .pre .0) _ (c .before .before .before .before .loop .inv .0 .ready .room))
 
+-- the working space after the pass, ready for what is kept and left then
 goal-level-requires-2 : tie.Need-goal-level-requires-2 Inv-loop μ-loop
 goal-level-requires-2 c κs =
     let n = next (c .before .before .before .before .before .before) in
+    let z = size (c .before .before .before .before .before) in
+    let p = c .before .before .before .before .before .before .before .before .before .before .before .before .before .before .before .before .before .before .before .before .pre .0 in
     let l = c .before .before .before .before .before .before .before .before .loop in
-    let k = c .before .before .before .carry in (
-      c .before .before .before .before .before .before .before .before .before .before .before .before .before .before .before .before .before .before .before .before .pre .0,
-      next-apart _ _ _ _ _ n _ (size (c .before .before .before .before .before)),
-      omega (arith, k .kept .1 .0, l .inv .0),
-      next-settling _ _ _ _ _ n _ (size (c .before .before .before .before .before)) _ _ _ (own (c .before .before .before .before .before .before)) (k .ensures) (l .inv .1),
-    )
+    (p, next-apart _ _ _ _ _ n _ z, next-kept _ _ _ _ _ _ _ n _ z _ _ _ p (own (c .before .before .before .before .before .before)) (c .before .before .before .keep .ensures) (l .inv .0 .ready) .ready)
 
 loop-less : tie.Need-loop-less Inv-loop μ-loop
 loop-less c = next-falls _ _ _ _ _ (next (c .before .before .before .before .before .before .before .before .before)) _ (size (c .before .before .before .before .before .before .before .before)) _ (c .before .before .goal-level2 .ensures .0)
 
 loop-again : tie.Need-loop-again Inv-loop μ-loop
 loop-again c =
-    let g = c .before .before .goal-level2 in (
-      omega (arith, g .kept .1 .1 .1 .0, c .before .before .before .before .before .before .carry .kept .1 .0, c .before .before .before .before .before .before .before .before .before .before .before .loop .inv .0),
-      g .ensures .1,
-      next-again _ _ _ _ _ (next (c .before .before .before .before .before .before .before .before .before)) _ (size (c .before .before .before .before .before .before .before .before)) _ (g .ensures .0),
-    )
+    let n = next (c .before .before .before .before .before .before .before .before .before) in
+    let z = size (c .before .before .before .before .before .before .before .before) in
+    let g = c .before .before .goal-level2 .ensures in
+    let i = c .before .before .before .before .before .before .before .before .before .before .before .loop .inv .0 in
+    let k = next-kept _ _ _ _ _ _ _ n _ z _ _ _ (c .before .before .before .before .before .before .before .before .before .before .before .before .before .before .before .before .before .before .before .before .before .before .before .pre .0) (own (c .before .before .before .before .before .before .before .before .before)) (c .before .before .before .before .before .before .keep .ensures) (i .ready) in
+    (kept-after _ _ _ _ _ _ _ _ (kept-after _ _ _ _ _ _ _ _ i k) (g .1), next-again _ _ _ _ _ n _ z _ (g .0))
 
 same-length-2 : tie.Need-same-length-2 Inv-loop μ-loop
-same-length-2 c = omega (arith, c .before .loop .inv .0, c .before .before .before .before .before .before .before .before .before .before .before .before .before .pre .3)
+same-length-2 c = c .before .loop .inv .0 .long ∙ c .before .before .before .before .before .goal-level .ensures .1 .long ∙ c .before .before .before .before .before .before .before .before .before .lay .ensures .long
 
 returns-2 : tie.Need-returns-2 Inv-loop μ-loop
 returns-2 c =
-    let p = c .before .before .before .before .before .before .before .before .before .before .before .before .before .pre in
-    within-is-some _ (inserting-end _ (p .0) _ _ (p .1) (p .2) _ _ _ (c .before .loop .inv .2) (c .loop-test .left))
+    let p = c .before .before .before .before .before .before .before .before .before .before .before .before .before .pre in (
+      within-is-some _ (inserting-end _ (p .0 .book) _ _ (p .1) (p .2) _ _ _ (c .before .loop .inv .1) (c .loop-test .left)),
+      c .before .loop .inv .0 .rest ∙ c .before .before .before .before .before .goal-level .ensures .1 .rest ∙ c .before .before .before .before .before .before .before .before .before .lay .ensures .rest,
+    )
 
 pub smallest-within-spec : {M : Type 1} → statement M
 smallest-within-spec =
@@ -110,7 +111,7 @@ smallest-within-spec =
     weight-requires
     add-kept
     rem-pool
-    carry-requires
+    keep-requires
     goal-level-requires-2
     loop-less
     loop-again

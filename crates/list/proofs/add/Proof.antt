@@ -12,18 +12,18 @@ use Rattle.list.proofs.add.Tie as tie
 all-requires : tie.Need-all-requires
 all-requires c κs =
     let p = c .before .before .before .before .before .before .before .before .before .pre in
-    omega (arith, p .1, well-formed _ (p .0) .groups)
+    omega (arith, p .1, well-formed _ (p .0 .book) .groups)
 
 returns : tie.Need-returns
 returns c =
     let s = c .before .before .before .before .before .before .before .before .before .smallest-within in
-    adds-explanation _ _ _ _ _ _ (sym (ap withinIs (c .before .before .before .before .before .set .given .1)) ∙ s .ensures) (c .before .before .put .ensures)
+    adds-explanation _ _ _ _ _ _ (sym (ap withinIs (c .before .before .before .before .before .set .given .1)) ∙ s .ensures .0) (c .before .before .put .ensures)
 
 returns-2 : tie.Need-returns-2
 returns-2 c =
     let p = c .before .before .before .before .before .before .before .before .before .before .before .before .before .before .pre in
     let s = c .before .before .before .before .before .before .before .before .before .smallest-within in
-    adds-repair _ _ _ _ _ _ _ (p .1) (sym (ap withinIs (c .before .before .before .before .before .enum-told .given .1)) ∙ s .ensures) (c .before .before .before .before .all .ensures) (c .before .before .put2 .ensures)
+    adds-repair _ _ _ _ _ _ _ (p .1) (sym (ap withinIs (c .before .before .before .before .before .enum-told .given .1)) ∙ s .ensures .0) (c .before .before .before .before .all .ensures) (c .before .before .put2 .ensures)
 
 pub add-spec : {M : Type 1} → statement M
 add-spec =

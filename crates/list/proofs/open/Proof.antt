@@ -51,7 +51,7 @@ returns-3 c = told-no _ _ _ (opens-no _ _ _ _ _ (check-refused _ _ _ (sym (ap ch
 returns-4 : tie.Need-returns-4
 returns-4 c =
     let k = accepted (c .before .before .before .before .before .before .before) in
-    told-book _ _ _ _ (opens-fine _ _ _ (k .is .read) (omega (arith, c .before .before .before .before .before .room .ensures, c .before .before .before .before .if1 .left)) _ _ (k .groups) (c .before .before .before .fault .ensures) (at-end _ _ _ _ (within (c .before .before)) (c .before .room2 .ensures) (c .if2 .left))) (k .variables) (k .groups)
+    told-book _ _ _ _ _ (opens-fine _ _ _ (k .is .read) (omega (arith, c .before .before .before .before .before .room .ensures, c .before .before .before .before .if1 .left)) _ _ (k .groups) (c .before .before .before .fault .ensures) (at-end _ _ _ _ (within (c .before .before)) (c .before .room2 .ensures) (c .if2 .left))) (k .variables) (k .groups) (k .clauses)
 
 pub open-spec : {M : Type 1} → statement M
 open-spec =

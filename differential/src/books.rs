@@ -143,6 +143,13 @@ pub fn paired(random: &mut Random, pairs: usize) -> Book {
     Book::new(pairs, 2 * pairs, clauses)
 }
 
+/// A book filled up to the limits with clauses of variables that nothing forces, which change no answer: tables of variables and clauses then take the most of the working space.
+pub fn filled(book: &Book) -> Book {
+    let idle = |clause: usize| Clause::new(0, MOST_VARIABLES - clause % 2, vec![MOST_VARIABLES - 2]);
+    let clauses = book.clauses.iter().cloned().chain((0..MOST_CLAUSES - book.clauses.len()).map(idle)).collect();
+    Book::new(MOST_VARIABLES, book.groups, clauses)
+}
+
 /// No clauses, no goals, or a core that is inconsistent by itself.
 fn bare(random: &mut Random) -> Book {
     let (variables, groups) = (random.pick(&[1, 2, 1_023, 1_024]), random.pick(&[0, 1, 5, 31, 32]));

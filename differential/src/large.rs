@@ -65,7 +65,9 @@ fn listing(steps: &mut Steps, book: &Book, call: Call, room: usize, known: Liste
 /// Disjoint pairs: each is an explanation, and each way to take one group of every pair a repair. The explanations come first, since a seed has both groups of a
 /// pair that is not listed; both kinds come in rising order, the repairs since seeds fall.
 fn pairs(steps: &mut Steps) -> Result<(), String> {
-    let pairs = steps.random.between(7, 16);
+    // At times more records than an engine can keep a list of beside tables of a book at the limits.
+    let long = steps.random.below(16) == 0;
+    let pairs = if long { steps.random.between(11, 13) } else { steps.random.between(7, 16) };
     let book = books::paired(steps.random, pairs);
     let single = |clause: &Clause| 1u32 << (clause.group - 1);
     let mut explanations: Vec<u32> = book.clauses.chunks(2).map(|pair| single(&pair[0]) | single(&pair[1])).collect();
@@ -76,8 +78,9 @@ fn pairs(steps: &mut Steps) -> Result<(), String> {
     explanations.sort_unstable();
     repairs.sort_unstable();
     let all = explanations.len() + repairs.len();
-    let room = steps.random.below(600).min(all + 3);
+    let room = if long { steps.random.between(1_500, 4_096) } else { steps.random.below(600) }.min(all + 3);
     let records =
         explanations.into_iter().map(|set| (EXPLANATION, set)).chain(repairs.into_iter().map(|set| (REPAIR, set)));
+    let book = if long { books::filled(&book) } else { book };
     listing(steps, &book, Call::List, room, (records.take(room).collect(), room >= all))
 }

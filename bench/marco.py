@@ -5,21 +5,11 @@ listing program does, in the order in which the loop finds them, the last line b
 loop, without the start of the process, the reading of the book and the making of the clauses. Past the time limit that line is `over SECONDS`.
 """
 import argparse
-import struct
 import time
 
 import z3
 
-
-def clauses_of(book):
-    """Groups, and for each clause its group, head and body."""
-    groups, at, clauses = struct.unpack('>H', book[5:7])[0], 7, []
-    while book[at] == 2:
-        length = struct.unpack('>H', book[at + 1:at + 3])[0]
-        group, head, *body = struct.unpack('>%dH' % (length // 2), book[at + 3:at + 3 + length])
-        clauses.append((group, head, body))
-        at += 3 + length
-    return groups, clauses
+from book_bytes import clauses_of
 
 
 class Book:

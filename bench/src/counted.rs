@@ -58,25 +58,43 @@ fn columns(own: &str) -> Vec<(&'static str, &'static str, Vec<String>)> {
 pub fn run(families: &[Family]) -> bool {
     let own = std::env::current_exe().expect("this program has a path").display().to_string();
     println!("Millions of instructions. Of the engine: inside `badolkhup_list`. Of twin: inside its listing. Of shape and fast: inside `main`, which reads the book and prints nothing.\n");
-    let mut ratios = Vec::new();
+    let columns = columns(&own);
+    let (mut by_shape, mut by_fast) = (Vec::new(), Vec::new());
     for family in families {
         println!("**{}**\n", family.name);
-        ratios.extend(listings(family, &columns(&own)));
+        for (book, ratios) in listings(family, &columns) {
+            let against = |name| columns.iter().position(|column| column.0 == name).map(|at| ratios[at]);
+            by_shape.extend(against("shape").map(|ratio| (book.clone(), ratio)));
+            by_fast.extend(against("fast").filter(|_| family.name == "yard").map(|ratio| (book.clone(), ratio)));
+        }
     }
-    target("at most 1.5 times the instructions of shape", &ratios, |ratio| ratio <= 1.5);
+    let (close, others): (Vec<_>, Vec<_>) = by_fast.into_iter().partition(|(book, _)| CLOSE.contains(&book.as_str()));
+    target("at most 1.5 times the instructions of shape", &by_shape, |ratio| ratio <= 1.5);
+    target("at most 3 times those of fast, on yard's pin up to 200 records and tax", &close, |ratio| ratio <= 3.0);
+    target("at most 10 times those of fast, on the other books of yard", &others, |ratio| ratio <= 10.0);
     asking(&own);
     bytes_calls(&own);
     true
 }
 
-/// Of each book where both were counted: the engine's instructions by those of shape.
-fn listings(family: &Family, columns: &[(&str, &str, Vec<String>)]) -> Vec<(String, Option<f64>)> {
+/// The books of yard that a closer target is about.
+const CLOSE: [&str; 6] = [
+    "yard-pin-8-3x3x2",
+    "yard-pin-24-4x6x2",
+    "yard-pin-32-4x6x2",
+    "yard-tax-16-4x15",
+    "yard-tax-24-8x20",
+    "yard-tax-32-16x25",
+];
+
+/// Of each book: the engine's instructions by those of each column, where both were counted.
+fn listings(family: &Family, columns: &[(&str, &str, Vec<String>)]) -> Vec<(String, Vec<Option<f64>>)> {
     let names: Vec<&str> = columns.iter().map(|column| column.0).collect();
     let ratios: Vec<String> = names[1..].iter().map(|name| format!("engine ÷ {name}")).collect();
     let head: Vec<&str> =
         ["Book", "growth"].into_iter().chain(names.iter().copied()).chain(ratios.iter().map(String::as_str)).collect();
     let mut table = Table::new(&head);
-    let (mut last, mut profile, mut by_shape) = (None, String::new(), Vec::new());
+    let (mut last, mut profile, mut all) = (None, String::new(), Vec::new());
     for book in &family.books {
         let file = format!("target/bench/books/{}.book", book.name);
         let mut counts = Vec::new();
@@ -92,12 +110,12 @@ fn listings(family: &Family, columns: &[(&str, &str, Vec<String>)]) -> Vec<(Stri
         row.extend(counts[1..].iter().map(|&count| ratio(counts[0], count)));
         table.row(&row);
         last = counts[0];
-        let shape = columns.iter().position(|column| column.0 == "shape").and_then(|column| counts[column]);
-        by_shape.extend(last.zip(shape).map(|(engine, shape)| (book.name.clone(), Some(engine / shape))));
+        let by = |count: &Option<f64>| last.zip(*count).map(|(engine, other)| engine / other);
+        all.push((book.name.clone(), counts.iter().map(by).collect()));
     }
     table.print();
     println!("{profile}");
-    by_shape
+    all
 }
 
 /// Where the engine's instructions go, from the profile that was written last: the share of each function by itself.

@@ -7,7 +7,7 @@ use std::process::Command;
 
 pub const ROOM: usize = 4096;
 
-/// Seconds that a program outside has for a book: CPU time of the z3 loop, wall time of the others. The commands below say the same.
+/// Seconds that a program outside has for a book: CPU time of the loops over z3 and cadical, wall time of the others. The commands below say the same.
 pub const LIMIT: f64 = 60.0;
 
 #[derive(Clone, PartialEq, Eq, Debug)]
@@ -68,12 +68,24 @@ pub struct Peer {
 }
 
 /// A further one is a line here.
-pub const PEERS: [Peer; 3] = [
+pub const PEERS: [Peer; 5] = [
     Peer {
         name: "z3",
         command: &["/usr/bin/python3", "bench/marco.py", "--limit", "60", "BOOK"],
         ordered: false,
         probe: &["/usr/bin/python3", "-c", "import z3"],
+    },
+    Peer {
+        name: "cadical",
+        command: &["target/bench/marco", "BOOK"],
+        ordered: false,
+        probe: &["test", "-x", "target/bench/marco"],
+    },
+    Peer {
+        name: "clingo",
+        command: &["timeout", "60", "/usr/bin/python3", "bench/answer_sets.py", "BOOK"],
+        ordered: false,
+        probe: &["clingo", "--version"],
     },
     Peer {
         name: "shape",

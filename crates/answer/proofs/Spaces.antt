@@ -7,6 +7,7 @@
 --   over-over                   a front written over one that is no longer
 --   Told, told-refused, told-written      what is answered and left, by what was to be written
 --   told-count, told-all        and the other way round
+--   told-one                    the answer and the space are determined
 --   wrote-none, wrote-one       no store, and one
 --   wrote-append                one run of stores after another
 --   wrote-length                the space is as long as it was
@@ -98,6 +99,9 @@ module _ {A : Type 0} (a : Answer (List A)) (old : List A) where
   pub told-all : (xs : List A) (r : Written) (new : List A) → a ≡ answered xs → Told r new → (r ≡ Count (length xs)) × (new ≡ over xs old)
   unfolding writtenIs counted laid
   told-all xs r new e t = (written-one r (Count (length xs)) (t .0 ∙ ap counted e), t .1 ∙ ap (λ (b : Answer (List A)). laid b old) e)
+
+  pub told-one : (r r′ : Written) (new new′ : List A) → Told r new → Told r′ new′ → (r ≡ r′) × (new ≡ new′)
+  told-one r r′ new new′ p q = (written-one r r′ (p .0 ∙ sym (q .0)), p .1 ∙ sym (q .1))
 
 module _ {A : Type 0} where
   pub wrote-none : (l : List A) (at : ℕ) → Wrote l at [] l at

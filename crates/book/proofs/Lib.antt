@@ -5,5 +5,7 @@ mod Counting
 pub mod Written
 pub mod Inverse
 pub mod Walk
+pub mod Walks
 pub mod Sizes
 pub mod Checks
+pub mod Fitting

@@ -8,12 +8,16 @@
 --   clausesBytes cs    a field for each clause, and the end
 --   bytesOf b          the whole book: the header, the clauses, the end
 --   sizesOf cs         7, and twice the size of the body, for each clause
+--   bytesIn room b     the bytes of b that are to be written into a space of so many; or refusal 1, then 11
 -- Assumes nothing: these are definitions.
 use Prim.Native.Nat.{ℕ, _+_, _*_, _≤_}
 use mathlib.Core.Path.{_≡_}
 use mathlib.Core.List.{List, [], _∷_, _++_}
 use mathlib.Core.Bool.{true}
 use lib.ListN.{length}
+use lib.Dec.{ltb}
+use Rattle.answer.specs.Answer.{Answer, _⇒_, first, unless}
+use Rattle.answer.specs.Space.{fitting}
 use Rattle.field.specs.Words.{wordBytes, within, rising}
 use Rattle.field.specs.Field.{fieldBytes}
 use Rattle.meaning.specs.Book.{Clause, Book}
@@ -65,3 +69,6 @@ bytesOf b = fieldBytes 1 (wordBytes (b .variables ∷ (b .groups ∷ []))) ++ cl
 unfoldable pub sizesOf : List Clause → ℕ
 sizesOf [] = 0
 sizesOf (c ∷ cs) = 7 + 2 * length (c .body) + sizesOf cs
+
+abbrev pub bytesIn : ℕ → Book → Answer (List ℕ)
+bytesIn room b = unless (first ((ltb mostBytes (length (bytesOf b)) ⇒ 1) ∷ [])) 0 (fitting room (bytesOf b))

@@ -14,7 +14,7 @@ use Rattle.answer.specs.Space.{writtenIs, Wrote}
 use Rattle.answer.specs.declared.Written.{Written}
 use Rattle.answer.specs.declared.Written.the-variants.{Count, Refused}
 use Rattle.answer.proofs.Answers.{then-by, then-not}
-use Rattle.answer.proofs.Spaces.{written-one, fitting-in, fitting-out, Told, told-refused, told-written, wrote-one, wrote-append}
+use Rattle.answer.proofs.Spaces.{fitting-in, fitting-out, Told, told-one, told-refused, told-written, wrote-one, wrote-append}
 use Rattle.meaning.specs.Book.{Book}
 use Rattle.book.specs.Reading.{reading}
 use Rattle.plain.specs.Plain.{plainClauses, plainOf}
@@ -25,7 +25,7 @@ abbrev pub Read : List ℕ → List ℤ → Written → List ℤ → Type 0
 Read s out r new = Told (reads s (length out)) out r new
 
 pub read-one : (s : List ℕ) (out : List ℤ) (r r′ : Written) (new new′ : List ℤ) → Read s out r new → Read s out r′ new′ → (r ≡ r′) × (new ≡ new′)
-read-one s out r r′ new new′ p q = (written-one r r′ (p .0 ∙ sym (q .0)), p .1 ∙ sym (q .1))
+read-one s out = told-one (reads s (length out)) out
 
 pub plain-length : (b : Book) → length (plainOf b) ≡ 2 + length (plainClauses (b .clauses))
 unfolding plainOf

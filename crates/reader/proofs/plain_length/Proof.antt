@@ -1,21 +1,21 @@
--- `reader::plain_length` meets its contract. The loop's invariant is `Adding`, of `Walks.antt`.
+-- `reader::plain_length` meets its contract. The loop's invariant is `Adding`, of book.
 -- Assumes nothing.
-use mathlib.Core.Path.{_≡_, refl, sym, ap, _∙_}
+use mathlib.Core.Path.{refl, sym, _∙_}
 use native.Mathlib.Omega.{arith}
 use denote.Ref.{now}
 use lib.ListN.{length}
 use Rattle.field.proofs.Parts.{part-shorter}
 use Rattle.book.specs.Walk.{bookOf}
 use Rattle.book.proofs.Walk.{Begun, begun, Turn, walk-on}
+use Rattle.book.proofs.Walks.{Adding, adding-room, adding-next, adding-end}
 use Rattle.plain.specs.Plain.{plainClauses, plainOf}
-use Rattle.reader.proofs.Walks.{Adding, adding-end, adding-next}
-use Prim.Native.Nat.{_+_}
+use Rattle.reader.proofs.Walks.{clauses-joined, turn-length, clauses-most}
 use borrow.Author.Needs.{needs}
 use Rattle.reader.proofs.plain_length.Statement.{statement}
 use Rattle.reader.proofs.plain_length.Tie as tie
 
 abbrev Inv-loop : tie.InvT-loop
-Inv-loop book rest₀ n₀ rest n = Adding (bookOf book .variables) (bookOf book .groups) (bookOf book .clauses) rest n
+Inv-loop book rest₀ n₀ rest n = Adding plainClauses 2 (bookOf book .variables) (bookOf book .groups) (bookOf book .clauses) rest n
 
 abbrev μ-loop : tie.MeasureT-loop
 μ-loop book rest₀ n₀ rest n = length rest
@@ -41,16 +41,14 @@ part-rest-start : tie.Need-part-rest-start Inv-loop μ-loop
 part-rest-start c = omega (arith, start c .long)
 
 loop-holds : tie.Need-loop-holds Inv-loop μ-loop
-loop-holds c =
-    let b = start (c .before) in
-    record { left = bookOf (now (c .before .before .args .book)) .clauses; walk = b .walk; sum = refl; small = omega (arith, b .most) }
+loop-holds c = record { left = bookOf (now (c .before .before .args .book)) .clauses; walk = start (c .before) .walk; sum = refl }
 
 front-of-requires : tie.Need-front-of-requires Inv-loop μ-loop
 front-of-requires c κs = tt
 
 returns : tie.Need-returns Inv-loop μ-loop
 unfolding plainOf
-returns c = omega (arith, adding-end _ _ _ _ _ (c .before .before .before .loop .inv) (sym (c .before .before .front-of .ensures) ∙ c .enum-told .given .1))
+returns c = omega (arith, adding-end _ _ clauses-joined _ _ _ _ _ _ (c .before .before .before .loop .inv) (sym (c .before .before .front-of .ensures) ∙ c .enum-told .given .1))
 
 clause-length-requires : tie.Need-clause-length-requires Inv-loop μ-loop
 clause-length-requires c κs =
@@ -59,8 +57,10 @@ clause-length-requires c κs =
 
 add-n : tie.Need-add-n Inv-loop μ-loop
 add-n c =
-    let k = adding-next _ _ _ (c .before .before .before .before .before .loop .rest .now) _ _ _ _ _ (c .before .before .before .before .before .loop .inv) (turn (c .before .before)) _ (c .clause-length .ensures) in
-    omega (arith, k .small)
+    let l = c .before .before .before .before .before in
+    let t = turn (c .before .before) in
+    let x = c .clause-length .ensures ∙ turn-length _ _ (l .loop .rest .now) _ _ _ _ _ t in
+    omega (arith, x, adding-room _ _ clauses-joined _ _ _ _ (l .loop .rest .now) _ (l .loop .inv) _ _ _ _ t, clauses-most _ (l .before .before .before .pre))
 
 sub-rest-2 : tie.Need-sub-rest-2 Inv-loop μ-loop
 sub-rest-2 c = omega (arith, turn (c .before .before) .fits)
@@ -74,7 +74,10 @@ loop-less c =
     part-shorter (c .before .before .before .before .before .before .loop .rest .now) _ (omega (arith, t .before, t .least)) (t .fits)
 
 loop-again : tie.Need-loop-again Inv-loop μ-loop
-loop-again c = adding-next _ _ _ (c .before .before .before .before .before .before .loop .rest .now) _ _ _ _ _ (c .before .before .before .before .before .before .loop .inv) (turn (c .before .before .before)) _ (c .before .clause-length .ensures)
+loop-again c =
+    let l = c .before .before .before .before .before .before in
+    let t = turn (c .before .before .before) in
+    adding-next _ _ clauses-joined _ _ _ _ (l .loop .rest .now) _ (l .loop .inv) _ _ _ _ t _ (c .before .clause-length .ensures ∙ turn-length _ _ (l .loop .rest .now) _ _ _ _ _ t)
 
 pub plain-length-spec : {M : Type 1} → statement M
 plain-length-spec =

@@ -1,21 +1,22 @@
--- `reader::put_clauses` meets its contract. The loop's invariant is `Filling`, of `Walks.antt`.
+-- `reader::put_clauses` meets its contract. The loop's invariant is `Filling`, of book.
 -- Assumes nothing.
-use mathlib.Core.Path.{_≡_, refl, sym, ap, _∙_}
+use mathlib.Core.Path.{sym, _∙_}
 use native.Mathlib.Omega.{arith}
 use denote.Ref.{now}
 use lib.ListN.{length}
 use Rattle.field.proofs.Parts.{part-shorter}
 use Rattle.book.specs.Walk.{bookOf}
 use Rattle.book.proofs.Walk.{Begun, begun, Turn, walk-on}
-use Rattle.plain.specs.Plain.{plainClauses, plainOf}
+use Rattle.book.proofs.Walks.{Filling, filling-room, filling-next, filling-end}
+use Rattle.plain.specs.Plain.{plainClauses}
 use Rattle.answer.proofs.Spaces.{writing-start, writing-length}
-use Rattle.reader.proofs.Walks.{Filling, filling-room, filling-end, filling-next}
+use Rattle.reader.proofs.Walks.{clauses-joined}
 use borrow.Author.Needs.{needs}
 use Rattle.reader.proofs.put_clauses.Statement.{statement}
 use Rattle.reader.proofs.put_clauses.Tie as tie
 
 abbrev Inv-loop : tie.InvT-loop
-Inv-loop book out₀ rest₀ at₀ out rest at = Filling (bookOf book .variables) (bookOf book .groups) (bookOf book .clauses) out₀ out rest at
+Inv-loop book out₀ rest₀ at₀ out rest at = Filling plainClauses 2 (bookOf book .variables) (bookOf book .groups) (bookOf book .clauses) out₀ out rest at
 
 abbrev μ-loop : tie.MeasureT-loop
 μ-loop book out₀ rest₀ at₀ out rest at = length rest
@@ -50,7 +51,7 @@ same-length : tie.Need-same-length Inv-loop μ-loop
 same-length c = writing-length _ _ _ _ _ _ (c .before .before .before .loop .inv .writing)
 
 returns : tie.Need-returns Inv-loop μ-loop
-returns c = filling-end _ _ _ _ _ _ _ (c .before .before .before .loop .inv) (sym (c .before .before .front-of .ensures) ∙ c .enum-told .given .1)
+returns c = filling-end _ _ clauses-joined _ _ _ _ _ _ _ _ (c .before .before .before .loop .inv) (sym (c .before .before .front-of .ensures) ∙ c .enum-told .given .1)
 
 sub-last : tie.Need-sub-last Inv-loop μ-loop
 sub-last c = omega (arith, turn (c .before) .before)
@@ -76,7 +77,7 @@ part-put-clause-end-2 c = omega (arith, turn (c .before .before) .least, turn (c
 put-clause-requires : tie.Need-put-clause-requires Inv-loop μ-loop
 put-clause-requires c κs =
     let l = c .before .before .before .before .before .before .before in
-    filling-room _ _ _ _ _ (l .loop .rest .now) _ _ _ _ _ (l .loop .inv) (turn (c .before .before .before .before)) (l .before .before .before .pre .1)
+    filling-room _ _ clauses-joined _ _ _ _ _ _ (l .loop .rest .now) _ (l .loop .inv) _ _ _ _ (turn (c .before .before .before .before)) (l .before .before .before .pre .1)
 
 sub-rest-2 : tie.Need-sub-rest-2 Inv-loop μ-loop
 sub-rest-2 c = omega (arith, turn (c .before .before .before .before .before .before) .fits)
@@ -90,7 +91,9 @@ loop-less c =
     part-shorter (c .before .before .before .before .before .before .before .before .before .before .loop .rest .now) _ (omega (arith, t .before, t .least)) (t .fits)
 
 loop-again : tie.Need-loop-again Inv-loop μ-loop
-loop-again c = filling-next _ _ _ _ _ (c .before .before .before .before .before .before .before .before .before .before .loop .rest .now) _ _ _ _ _ (c .before .before .before .before .before .before .before .before .before .before .loop .inv) (turn (c .before .before .before .before .before .before .before)) _ _ (c .before .before .put-clause .ensures)
+loop-again c =
+    let l = c .before .before .before .before .before .before .before .before .before .before in
+    filling-next _ _ clauses-joined _ _ _ _ _ _ (l .loop .rest .now) _ (l .loop .inv) _ _ _ _ (turn (c .before .before .before .before .before .before .before)) _ _ (c .before .before .put-clause .ensures)
 
 pub put-clauses-spec : {M : Type 1} → statement M
 put-clauses-spec =

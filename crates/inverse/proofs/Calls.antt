@@ -5,19 +5,16 @@
 -- `taking-given` and `taking-back` of plain.
 -- Assumes nothing.
 use Prim.Native.Nat.{ℕ, _≤_}
-use mathlib.Core.Path.{_≡_, refl, sym, ap, _∙_}
-use mathlib.Core.List.{List, [], _∷_}
+use mathlib.Core.Path.{_≡_, sym, ap, _∙_}
+use mathlib.Core.List.{List}
 use native.Mathlib.Omega.{arith}
 use lib.IntN.{ℤ}
 use lib.ListN.{length, take}
-use lib.Dec.{ltb}
-use borrow.Author.Tests.{le-ltb, ltb-false}
-use Rattle.answer.specs.Answer.{Answer, answered, _⇒_, first, unless}
+use Rattle.answer.specs.Answer.{answered}
 use Rattle.answer.specs.Space.{fitting, over}
 use Rattle.answer.specs.declared.Written.{Written}
 use Rattle.answer.specs.declared.Written.the-variants.{Count}
-use Rattle.answer.proofs.Answers.{then-by, then-is, unless-none, unless-is}
-use Rattle.answer.proofs.Tests.{first-clear}
+use Rattle.answer.proofs.Answers.{then-by, then-is}
 use Rattle.answer.proofs.Spaces.{fitting-in, fitting-is, told-count, told-all}
 use Rattle.field.specs.Words.{Bytes}
 use Rattle.meaning.specs.Book.{Book}
@@ -25,6 +22,7 @@ use Rattle.book.specs.Bytes.{mostBytes, WellFormed, bytesOf}
 use Rattle.book.specs.Reading.{reading}
 use Rattle.book.proofs.Written.{reading-written}
 use Rattle.book.proofs.Inverse.{reading-is}
+use Rattle.book.proofs.Fitting.{bytes-in, bytes-is}
 use Rattle.plain.specs.Plain.{plainOf}
 use Rattle.plain.specs.Taking.{taking}
 use Rattle.plain.proofs.Given.{taking-given}
@@ -36,10 +34,8 @@ use Rattle.writer.proofs.Whole.{Write}
 
 -- what a book that is well formed is written as, and what its bytes are read as
 writes-book : (b : Book) (room : ℕ) → WellFormed b → length (bytesOf b) ≤ mostBytes → length (bytesOf b) ≤ room → writes (plainOf b) room ≡ answered (bytesOf b)
-unfolding writes first
-writes-book b room k short fits =
-    then-by _ b _ (taking-given b k)
-    ∙ simp (le-ltb mostBytes (length (bytesOf b)) short) (unless-none 0 0 _ refl ∙ fitting-in room (bytesOf b) fits)
+unfolding writes
+writes-book b room k short fits = then-by _ b _ (taking-given b k) ∙ bytes-in room b short fits
 
 reads-book : (b : Book) (room : ℕ) → WellFormed b → length (bytesOf b) ≤ mostBytes → length (plainOf b) ≤ room → reads (bytesOf b) room ≡ answered (plainOf b)
 unfolding reads
@@ -71,12 +67,11 @@ write-read xs space n bytes write room r new fits read =
     let e = then-is (taking xs) _ (t .0) (t .1) in
     let b = e .0 in
     let k = taking-back xs b (e .1) in
-    let u = unless-is (first ((ltb mostBytes (length (bytesOf b)) ⇒ 1) ∷ [])) 0 (fitting (length space) (bytesOf b)) (t .0) (e .2) in
-    let short : length (bytesOf b) ≤ mostBytes = ltb-false _ _ (first-clear ((ltb mostBytes (length (bytesOf b)) ⇒ 1) ∷ []) (u .0) .0) in
-    let form : take n bytes ≡ bytesOf b = t .3 ∙ sym (fitting-is (length space) (bytesOf b) (t .0) (u .1)) in
+    let u = bytes-is (length space) b (t .0) (e .2) in
+    let form : take n bytes ≡ bytesOf b = t .3 ∙ sym (u .0) in
     let long : length (plainOf b) ≡ length xs = ap length (k .same) in
     let w : reads (take n bytes) (length room) ≡ answered xs =
     ap (λ (l : List ℕ). reads l (length room)) form
-    ∙ reads-book b (length room) (k .good) short (omega arith)
+    ∙ reads-book b (length room) (k .good) (u .1) (omega arith)
     ∙ ap answered (k .same) in
     told-all (reads (take n bytes) (length room)) room xs r new w read

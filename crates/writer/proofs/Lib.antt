@@ -2,5 +2,6 @@
 mod Firsts
 mod Scans
 mod Passing
-mod Copying
+pub mod Copying
+pub mod Books
 pub mod Whole

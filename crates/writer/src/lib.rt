@@ -122,12 +122,12 @@ fn wrong_number(s: &[i32], at: usize, low: u16, high: u16) -> u8
     }
 }
 
-// What taking a plain form answers: the header's numbers and the length of the book that is to be written, or the refusal.
-enum Taken {
+// What taking a plain form, or a text, answers: the header's numbers and the length of the book that is to be written, or the refusal.
+pub enum Taken {
     Book {
         variables: u16,
         groups: u16,
-        size: usize,
+        length: usize,
     },
     Refused {
         number: u8,
@@ -149,7 +149,7 @@ fn take_clauses(plain: &[i32], variables: u16, groups: u16) -> Taken
             return Taken::Book {
                 variables,
                 groups,
-                size,
+                length: size,
             };
         }
         if left == 0 {
@@ -267,7 +267,7 @@ fn put_clauses(plain: &[i32], variables: u16, out: &mut [u8]) -> usize
 }
 
 // Writes the header.
-fn put_header(variables: u16, groups: u16, out: &mut [u8]) -> usize
+pub fn put_header(variables: u16, groups: u16, out: &mut [u8]) -> usize
     requires { ⌜ 7 ≤ length (now out) ⌝ }
     ensures { λ r. ⌜ Wrote (now (out .entry)) 0 (fieldBytes 1 (wordBytes (variables ∷ groups ∷ []))) (now (out .exit)) r ⌝ }
 {
@@ -285,15 +285,15 @@ pub fn write(plain: &[i32], out: &mut [u8]) -> Written
         Taken::Book {
             variables,
             groups,
-            size,
+            length,
         } => {
-            if MOST_BYTES < size {
+            if MOST_BYTES < length {
                 return Written::Refused {
                     number: 1,
                     place: 0,
                 };
             }
-            if out.len() < size {
+            if out.len() < length {
                 return Written::Refused {
                     number: 11,
                     place: 0,

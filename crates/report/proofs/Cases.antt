@@ -8,9 +8,10 @@ use Prim.Native.Nat.{ℕ}
 use mathlib.Core.Path.{_≡_, refl}
 use mathlib.Core.List.{List, [], _∷_}
 use mathlib.Core.Bool.{true, false}
+use Rattle.decimal.specs.Digits.{digitsIn, line}
 use Rattle.rounds.specs.Records.{explains, repairs}
 use Rattle.records.specs.Words.{kindOf, setOf}
-use Rattle.report.specs.Text.{digitsIn, numbers, groupsIn, setText, line, kindWord, recordLine, recordLines, listingText, refusalText}
+use Rattle.report.specs.Text.{numbers, groupsIn, setText, kindWord, recordLine, recordLines, listingText, refusalText}
 
 abbrev pub x-text : List ℕ
 x-text =

@@ -1,54 +1,17 @@
--- Numbers and sets as text.
---   number-low, number-high     a number of one digit, and of more
---   number-length               a number below 10 ^ k has at most k digits
+-- Sets as text.
 --   groups-none, groups-more    the empty set has no groups; another: the group of its lowest bit, if that is in it, and the others
 --   groups-length               the groups of a set below 2 ^ k, as text, are at most 3 bytes each
 -- Assumes nothing.
 use Prim.Native.Nat.{ℕ, zero, suc, _+_, _*_, _/_, _%_, _^_, _≤_, _<_}
 use mathlib.Core.Path.{_≡_, refl, sym, ap, _∙_}
 use mathlib.Core.List.{List, [], _∷_, _++_}
-use mathlib.Core.Logic.{_⊎_, inl, inr}
 use mathlib.Core.Bool.{Bool, true, false, cond}
 use native.Mathlib.Omega.{arith}
-use lib.Dec.{eqb, ltb}
+use lib.Dec.{eqb}
 use lib.ListN.{length, length-append}
-use borrow.Author.Tests.{lt-ltb, le-ltb, eq-eqb, ne-eqb}
-use Rattle.rounds.proofs.Digits.{lt-or-ge}
-use Rattle.report.specs.Text.{digitsIn, number, after, numbers, groupsIn, groupsOf}
-
-digits-low : (f n : ℕ) → n < 10 → digitsIn (suc f) n ≡ (48 + n) ∷ []
-unfolding digitsIn
-digits-low f n h = rw (lt-ltb n 10 h)
-
-digits-high : (f n : ℕ) → 10 ≤ n → digitsIn (suc f) n ≡ digitsIn f (n / 10) ++ ((48 + n % 10) ∷ [])
-unfolding digitsIn
-digits-high f n h = rw (le-ltb n 10 h)
-
--- more steps than are needed change nothing
-digits-enough : (f h n : ℕ) → n < f → n < h → digitsIn f n ≡ digitsIn h n
-digits-enough zero h n p q = absurd (omega arith)
-digits-enough (suc f) zero n p q = absurd (omega arith)
-digits-enough (suc f) (suc h) n p q = go (lt-or-ge n 10) (digits-enough f h (n / 10))
-  where
-    go : (n < 10) ⊎ (10 ≤ n) → (n / 10 < f → n / 10 < h → digitsIn f (n / 10) ≡ digitsIn h (n / 10)) → digitsIn (suc f) n ≡ digitsIn (suc h) n
-    go (inl l) ih = digits-low f n l ∙ sym (digits-low h n l)
-    go (inr l) ih = digits-high f n l ∙ ap (λ (ds : List ℕ). ds ++ ((48 + n % 10) ∷ [])) (ih (omega arith) (omega arith)) ∙ sym (digits-high h n l)
-
-pub number-low : (n : ℕ) → n < 10 → number n ≡ (48 + n) ∷ []
-number-low n h = digits-low n n h
-
-pub number-high : (n : ℕ) → 10 ≤ n → number n ≡ number (n / 10) ++ ((48 + n % 10) ∷ [])
-number-high n h = digits-high n n h ∙ ap (λ (ds : List ℕ). ds ++ ((48 + n % 10) ∷ [])) (digits-enough n (suc (n / 10)) (n / 10) (omega arith) (omega arith))
-
-pub number-length : (k n : ℕ) → n < 10 ^ suc k → length (number n) ≤ suc k
-number-length zero n h = omega (arith, ap length (number-low n (omega (arith, h))))
-number-length (suc k) n h = go (lt-or-ge n 10) (number-length k (n / 10))
-  where
-    go : (n < 10) ⊎ (10 ≤ n) → (n / 10 < 10 ^ suc k → length (number (n / 10)) ≤ suc k) → length (number n) ≤ suc (suc k)
-    go (inl l) ih = omega (arith, ap length (number-low n l))
-    go (inr l) ih =
-        let m : n / 10 < 10 ^ suc k = omega (arith, h) in
-        omega (arith, ih m, ap length (number-high n l), length-append (number (n / 10)) ((48 + n % 10) ∷ []))
+use Rattle.decimal.specs.Digits.{after}
+use Rattle.decimal.proofs.Digits.{number-length}
+use Rattle.report.specs.Text.{numbers, groupsIn}
 
 pub groups-none : (f g : ℕ) → groupsIn f g 0 ≡ []
 unfolding groupsIn

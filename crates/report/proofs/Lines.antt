@@ -2,31 +2,29 @@
 --   set-none, set-some, set-length          the text of a set, by whether it is empty; at most 96 bytes where there are 32 groups
 --   kind-explains, kind-repairs, kind-length     the word of a kind
 --   last-complete, last-stopped             the word of the last line
---   line-wrote                              a word, what follows it, and a line feed
---   line-length                             how long a line of a word and a number is
 --   record-line, record-wrote               the line of a record given as words
 --   lines-none, lines-more                  the lines of the first records: one more comes last
 --   pair-wrote                              the line of a refusal
 --   listing-wrote                           the header's line, the lines of the records, and the last line
 -- Assumes nothing.
-use Prim.Native.Nat.{ℕ, zero, suc, _+_, _*_, _/_, _%_, _^_, _≤_, _<_}
+use Prim.Native.Nat.{ℕ, zero, suc, _+_, _*_, _^_, _≤_, _<_}
 use mathlib.Core.Path.{_≡_, refl, sym, ap, ap₂, _∙_}
 use mathlib.Core.List.{List, [], _∷_, _++_, append-nil, append-assoc}
 use mathlib.Core.Bool.{Bool, true, false, cond}
-use mathlib.Core.Logic.{_⊎_, inl, inr}
 use native.Mathlib.Omega.{arith}
 use native.Mathlib.Numerals.{add-one}
 use lib.Dec.{eqb}
-use lib.ListN.{length, length-append, getD, drop}
+use lib.ListN.{length, getD, drop}
 use borrow.Author.Tests.{eq-eqb, ne-eqb}
 use Rattle.answer.specs.Space.{Wrote}
 use Rattle.answer.proofs.Spaces.{wrote-append}
+use Rattle.decimal.specs.Digits.{after, line}
+use Rattle.decimal.proofs.Putting.{wrote-as, line-wrote}
 use Rattle.rounds.specs.Records.{Record, explains, repairs}
-use Rattle.records.specs.Words.{kindAt, setAt, kindOf, setOf, recordFrom, recordsOf, recordWords}
+use Rattle.records.specs.Words.{kindAt, setAt, kindOf, setOf, recordFrom, recordsOf}
 use Rattle.records.proofs.Words.{records-none, records-next}
-use Rattle.report.specs.Text.{number, after, numbers, groupsOf, noneText, setText, groupsWord, explainWord, repairWord, completeWord, stoppedWord, refusedWord, line, kindWord, recordLine, recordLines, lastWord, listingText, refusalText}
+use Rattle.report.specs.Text.{numbers, groupsOf, noneText, setText, groupsWord, explainWord, repairWord, completeWord, stoppedWord, refusedWord, kindWord, recordLine, recordLines, lastWord, listingText, refusalText}
 use Rattle.report.proofs.Digits.{groups-length}
-use Rattle.report.proofs.Putting.{wrote-as}
 
 module _ (x : ℕ) where
   pub set-none : x ≡ 0 → setText x ≡ noneText
@@ -68,20 +66,10 @@ last-complete b e = rw e
 pub last-stopped : (b : Bool) → b ≡ false → lastWord b ≡ stoppedWord
 last-stopped b e = rw e
 
-module _ (l : List ℕ) (i : ℕ) where
-  pub line-wrote : (word o : List ℕ) (a : ℕ) (rest p : List ℕ) (b : ℕ) (q : List ℕ) (c : ℕ)
-      → Wrote l i word o a → Wrote o a rest p b → Wrote p b (10 ∷ []) q c → Wrote l i (line word rest) q c
-  unfolding line
-  line-wrote word o a rest p b q c u v w = wrote-append l i word o a (rest ++ (10 ∷ [])) q c u (wrote-append o a rest p b (10 ∷ []) q c v w)
-
-  pub pair-wrote : (n at : ℕ) (o : List ℕ) (a : ℕ) (p : List ℕ) (b : ℕ) (q : List ℕ) (c : ℕ) (r : List ℕ) (d : ℕ)
-      → Wrote l i refusedWord o a → Wrote o a (after n) p b → Wrote p b (after at) q c → Wrote q c (10 ∷ []) r d → Wrote l i (refusalText n at) r d
-  unfolding refusalText
-  pair-wrote n at o a p b q c r d u v w z = line-wrote refusedWord o a (after n ++ after at) q c r d u (wrote-append o a (after n) p b (after at) q c v w) z
-
-pub line-length : (word : List ℕ) (n : ℕ) → length (line word (after n)) ≡ length word + length (number n) + 2
-unfolding line
-line-length word n = omega (arith, length-append word (after n ++ (10 ∷ [])), length-append (after n) (10 ∷ []))
+pub pair-wrote : (n at : ℕ) (l : List ℕ) (i : ℕ) (o : List ℕ) (a : ℕ) (p : List ℕ) (b : ℕ) (q : List ℕ) (c : ℕ) (r : List ℕ) (d : ℕ)
+    → Wrote l i refusedWord o a → Wrote o a (after n) p b → Wrote p b (after at) q c → Wrote q c (10 ∷ []) r d → Wrote l i (refusalText n at) r d
+unfolding refusalText
+pair-wrote n at l i o a p b q c r d u v w z = line-wrote l i refusedWord o a (after n ++ after at) q c r d u (wrote-append o a (after n) p b (after at) q c v w) z
 
 record-line : (k s : ℕ) → recordLine (recordFrom k s) ≡ line (kindWord k) (setText s)
 unfolding recordLine recordFrom kindOf setOf kindWord

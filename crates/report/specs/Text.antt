@@ -1,14 +1,10 @@
 -- The text of a listing, in bytes: what document 01 shows.
---   digitsIn f n       the decimal digits of n without leading zeros, in so many steps at most
---   number n           the decimal digits of n
---   after n            a blank and the digits of n
 --   numbers ns         some numbers, a blank before each
 --   groupsIn f g x     the groups of the set x rising, where its lowest bit stands for group g, in so many steps at most
 --   groupsOf x         the groups of a set, rising
 --   noneText           a blank and `none`
 --   setText x          `none` for the empty set; else its groups, a blank before each
 --   groupsWord, explainWord, repairWord, completeWord, stoppedWord, refusedWord      the words
---   line word rest     a word, what follows it, and a line feed
 --   kindWord k         `explain` for kind 1, and else `repair`
 --   recordLine r       `explain` or `repair`, and the set
 --   recordLines rs     a line for each record
@@ -19,20 +15,11 @@
 use Prim.Native.Nat.{ℕ, zero, suc, _+_, _/_, _%_}
 use mathlib.Core.List.{List, [], _∷_, _++_}
 use mathlib.Core.Bool.{Bool, cond}
-use lib.Dec.{eqb, ltb}
+use lib.Dec.{eqb}
 use lib.ListN.{length}
+use Rattle.decimal.specs.Digits.{after, line}
 use Rattle.rounds.specs.Records.{Record}
 use Rattle.records.specs.Words.{kindOf, setOf}
-
-unfoldable pub digitsIn : ℕ → ℕ → List ℕ
-digitsIn zero n = []
-digitsIn (suc f) n = cond (ltb n 10) ((48 + n) ∷ []) (digitsIn f (n / 10) ++ ((48 + n % 10) ∷ []))
-
-abbrev pub number : ℕ → List ℕ
-number n = digitsIn (suc n) n
-
-abbrev pub after : ℕ → List ℕ
-after n = 32 ∷ number n
 
 unfoldable pub numbers : List ℕ → List ℕ
 numbers [] = []
@@ -68,9 +55,6 @@ stoppedWord = 115 ∷ 116 ∷ 111 ∷ 112 ∷ 112 ∷ 101 ∷ 100 ∷ []
 
 abbrev pub refusedWord : List ℕ
 refusedWord = 114 ∷ 101 ∷ 102 ∷ 117 ∷ 115 ∷ 101 ∷ 100 ∷ []
-
-unfoldable pub line : List ℕ → List ℕ → List ℕ
-line word rest = word ++ (rest ++ (10 ∷ []))
 
 unfoldable pub kindWord : ℕ → List ℕ
 kindWord k = cond (eqb k 1) explainWord repairWord

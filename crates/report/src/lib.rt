@@ -1,56 +1,14 @@
 // The text of a listing, written into lent bytes. A call gives the place after what it wrote.
-ghost use mathlib.Core.Path.{_≡_};
-ghost use mathlib.Core.List.{[], _∷_};
+ghost use mathlib.Core.List.{[]};
 ghost use mathlib.Core.Bool.{cond};
-ghost use Prim.Native.Nat.{suc, _+_, _*_, _%_, _≤_, _<_};
+ghost use Prim.Native.Nat.{_+_, _*_, _%_, _≤_};
 ghost use lib.Dec.{eqb};
 ghost use lib.ListN.{length};
 ghost use Rattle.answer.specs.Space.{Wrote};
+ghost use Rattle.decimal.specs.Digits.{after, line};
 ghost use Rattle.records.specs.Words.{room, recordFrom, recordsOf};
-ghost use Rattle.report.specs.Text.{number, after, numbers, groupsOf, setText, groupsWord, kindWord, line, recordLine, recordLines, lastWord, listingText, refusalText};
+ghost use Rattle.report.specs.Text.{numbers, groupsOf, setText, groupsWord, kindWord, recordLine, recordLines, lastWord, listingText, refusalText};
 use records::EXPLANATION;
-
-fn put_byte(byte: u8, out: &mut [u8], at: usize) -> usize
-    requires { ⌜ at < length (now out) ⌝ }
-    ensures { λ r. ⌜ Wrote (now (out .entry)) at (byte ∷ []) (now (out .exit)) r ⌝ }
-{
-    out[at] = byte;
-    at + 1
-}
-
-fn put_text(text: &[u8], out: &mut [u8], at: usize) -> usize
-    requires { ⌜ at + length (now text) ≤ length (now out) ⌝ }
-    ensures { λ r. ⌜ Wrote (now (out .entry)) at (now (text .entry)) (now (out .exit)) r ⌝ }
-{
-    let mut i = at;
-    let mut k: usize = 0;
-    while k < text.len() {
-        i = put_byte(text[k], out, i);
-        k += 1;
-    }
-    i
-}
-
-// A number in decimal.
-fn put_number(n: usize, out: &mut [u8], at: usize) -> usize
-    requires { ⌜ at + length (number n) ≤ length (now out) ⌝ }
-    ensures { λ r. ⌜ Wrote (now (out .entry)) at (number n) (now (out .exit)) r ⌝ }
-{
-    if n < 10 {
-        return put_byte(48 + n as u8, out, at);
-    }
-    let next = put_number(n / 10, out, at);
-    put_byte(48 + (n % 10) as u8, out, next)
-}
-
-// A blank and a number.
-fn put_after(n: usize, out: &mut [u8], at: usize) -> usize
-    requires { ⌜ at + suc (length (number n)) ≤ length (now out) ⌝ }
-    ensures { λ r. ⌜ Wrote (now (out .entry)) at (after n) (now (out .exit)) r ⌝ }
-{
-    let next = put_byte(32, out, at);
-    put_number(n, out, next)
-}
 
 // A blank and the group that the lowest bit of a set stands for, if it is in the set.
 fn put_member(rest: u32, group: usize, out: &mut [u8], at: usize) -> usize
@@ -58,7 +16,7 @@ fn put_member(rest: u32, group: usize, out: &mut [u8], at: usize) -> usize
     ensures { λ r. ⌜ Wrote (now (out .entry)) at (cond (eqb (rest % 2) 1) (after group) []) (now (out .exit)) r ⌝ }
 {
     if rest % 2 == 1 {
-        return put_after(group, out, at);
+        return decimal::put_after(group, out, at);
     }
     at
 }
@@ -85,7 +43,7 @@ fn put_set(set: u32, out: &mut [u8], at: usize) -> usize
     ensures { λ r. ⌜ Wrote (now (out .entry)) at (setText set) (now (out .exit)) r ⌝ }
 {
     if set == 0 {
-        return put_text(b" none", out, at);
+        return decimal::put_text(b" none", out, at);
     }
     put_groups(set, out, at)
 }
@@ -95,9 +53,9 @@ fn put_kind(kind: u32, out: &mut [u8], at: usize) -> usize
     ensures { λ r. ⌜ Wrote (now (out .entry)) at (kindWord kind) (now (out .exit)) r ⌝ }
 {
     if kind == EXPLANATION {
-        return put_text(b"explain", out, at);
+        return decimal::put_text(b"explain", out, at);
     }
-    put_text(b"repair", out, at)
+    decimal::put_text(b"repair", out, at)
 }
 
 // The line of a record.
@@ -108,7 +66,7 @@ fn put_record(kind: u32, set: u32, out: &mut [u8], at: usize) -> usize
 {
     let word = put_kind(kind, out, at);
     let end = put_set(set, out, word);
-    put_byte(10, out, end)
+    decimal::put_byte(10, out, end)
 }
 
 // A line of a word and a number.
@@ -116,9 +74,9 @@ fn put_line(word: &[u8], n: usize, out: &mut [u8], at: usize) -> usize
     requires { ⌜ at + length (now word) + 22 ≤ length (now out) ⌝ }
     ensures { λ r. ⌜ Wrote (now (out .entry)) at (line (now (word .entry)) (after n)) (now (out .exit)) r ⌝ }
 {
-    let next = put_text(word, out, at);
-    let last = put_after(n, out, next);
-    put_byte(10, out, last)
+    let next = decimal::put_text(word, out, at);
+    let last = decimal::put_after(n, out, next);
+    decimal::put_byte(10, out, last)
 }
 
 // The first line of a listing: the header's groups.
@@ -145,10 +103,10 @@ pub fn put_refusal(number: u8, place: usize, out: &mut [u8], at: usize) -> usize
     requires { ⌜ at + 64 ≤ length (now out) ⌝ }
     ensures { λ r. ⌜ Wrote (now (out .entry)) at (refusalText number place) (now (out .exit)) r ⌝ }
 {
-    let word = put_text(b"refused", out, at);
-    let next = put_after(number as usize, out, word);
-    let last = put_after(place, out, next);
-    put_byte(10, out, last)
+    let word = decimal::put_text(b"refused", out, at);
+    let next = decimal::put_after(number as usize, out, word);
+    let last = decimal::put_after(place, out, next);
+    decimal::put_byte(10, out, last)
 }
 
 // The lines of the first records.

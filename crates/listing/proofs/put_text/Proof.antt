@@ -6,7 +6,7 @@ use denote.Ref.{now}
 use Rattle.field.proofs.Words.{bytes-at}
 use Rattle.book.specs.Check.{checkedIs}
 use Rattle.book.proofs.Checks.{Accepted, check-book, check-refused}
-use Rattle.report.proofs.Putting.{wrote-as}
+use Rattle.decimal.proofs.Putting.{wrote-as}
 use Rattle.listing.proofs.Prints.{refusal-text, no-refusal, complete-few, complete-text, stopped-few, stopped-text}
 use borrow.Author.Needs.{needs}
 use Rattle.listing.proofs.put_text.Statement.{statement}

@@ -4,8 +4,8 @@ use mathlib.Core.Path.{_≡_, sym, ap, _∙_}
 use native.Mathlib.Omega.{arith}
 use denote.Ref.{now}
 use lib.ListN.{length}
-use Rattle.report.specs.Text.{line, after}
-use Rattle.report.proofs.Putting.{wrote-as}
+use Rattle.decimal.specs.Digits.{line, after}
+use Rattle.decimal.proofs.Putting.{wrote-as}
 use Rattle.report.proofs.Lines.{last-complete, last-stopped}
 use borrow.Author.Needs.{needs}
 use Rattle.report.proofs.put_last.Statement.{statement}

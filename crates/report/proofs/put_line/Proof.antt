@@ -5,8 +5,8 @@ use native.Mathlib.Omega.{arith}
 use denote.Ref.{now}
 use lib.ListN.{length}
 use Rattle.answer.proofs.Spaces.{wrote-length}
-use Rattle.report.proofs.Digits.{number-length}
-use Rattle.report.proofs.Lines.{line-wrote}
+use Rattle.decimal.proofs.Digits.{number-length}
+use Rattle.decimal.proofs.Putting.{line-wrote}
 use borrow.Author.Needs.{needs}
 use Rattle.report.proofs.put_line.Statement.{statement}
 use Rattle.report.proofs.put_line.Tie as tie

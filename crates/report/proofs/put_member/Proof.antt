@@ -4,7 +4,8 @@ use mathlib.Core.Path.{sym, ap}
 use native.Mathlib.Omega.{arith}
 use lib.ListN.{length}
 use Rattle.answer.proofs.Spaces.{wrote-none}
-use Rattle.report.proofs.Putting.{wrote-as, member-in, member-out}
+use Rattle.decimal.proofs.Putting.{wrote-as}
+use Rattle.report.proofs.Putting.{member-in, member-out}
 use borrow.Author.Needs.{needs}
 use Rattle.report.proofs.put_member.Statement.{statement}
 use Rattle.report.proofs.put_member.Tie as tie

@@ -9,7 +9,7 @@ use Rattle.answer.specs.Space.{Wrote}
 use Rattle.answer.proofs.Spaces.{wrote-none, wrote-append, wrote-length}
 use Rattle.records.specs.Words.{recordsOf}
 use Rattle.report.specs.Text.{recordLines}
-use Rattle.report.proofs.Putting.{wrote-as}
+use Rattle.decimal.proofs.Putting.{wrote-as}
 use Rattle.report.proofs.Lines.{lines-none, lines-more}
 use borrow.Author.Needs.{needs}
 use Rattle.report.proofs.put_records.Statement.{statement}

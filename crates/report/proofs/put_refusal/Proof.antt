@@ -5,7 +5,7 @@ use native.Mathlib.Omega.{arith}
 use denote.Ref.{now}
 use lib.ListN.{length}
 use Rattle.answer.proofs.Spaces.{wrote-length}
-use Rattle.report.proofs.Digits.{number-length}
+use Rattle.decimal.proofs.Digits.{number-length}
 use Rattle.report.proofs.Lines.{pair-wrote}
 use borrow.Author.Needs.{needs}
 use Rattle.report.proofs.put_refusal.Statement.{statement}

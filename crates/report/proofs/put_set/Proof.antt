@@ -4,7 +4,7 @@ use mathlib.Core.Path.{_≡_, sym, ap, _∙_}
 use native.Mathlib.Omega.{arith}
 use denote.Ref.{now}
 use lib.ListN.{length}
-use Rattle.report.proofs.Putting.{wrote-as}
+use Rattle.decimal.proofs.Putting.{wrote-as}
 use Rattle.report.proofs.Lines.{set-none, set-some}
 use borrow.Author.Needs.{needs}
 use Rattle.report.proofs.put_set.Statement.{statement}

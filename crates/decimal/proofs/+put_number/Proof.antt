@@ -1,24 +1,21 @@
--- `report::put_number` meets its contract: the digits above the last, and the last.
+-- `decimal::put_number` meets its contract: the digits above the last, and the last.
 -- Assumes nothing.
-use Prim.Native.Nat.{ℕ, _+_, _/_, _%_, _<_}
-use mathlib.Core.Path.{_≡_, sym, ap, _∙_}
-use mathlib.Core.List.{[], _∷_}
+use Prim.Native.Nat.{ℕ, _+_, _<_}
+use mathlib.Core.Path.{ap}
 use native.Mathlib.Omega.{arith}
-use denote.Ref.{now}
-use lib.ListN.{length, length-append}
+use lib.ListN.{length}
 use borrow.Author.Needs.{needs}
 use Rattle.answer.proofs.Spaces.{wrote-length}
-use Rattle.report.specs.Text.{number}
-use Rattle.report.proofs.Digits.{number-low}
-use Rattle.report.proofs.Putting.{put-low, put-high, high-room}
+use Rattle.decimal.proofs.Digits.{number-low, high-room}
+use Rattle.decimal.proofs.Putting.{put-low, put-high}
 use borrow.Fn.Kinds.{In}
 use borrow.Fn.PlainCycle.{Measures, is, falls, and}
-use Rattle.report.proofs.put_number.Reads as put-number
-use Rattle.report.proofs.put_number.Kinds as put-number-kinds
-use Rattle.report.proofs.+put_number.Lts-put_number as put-number-lts
-use Rattle.report.proofs.put_byte.Reads as put-byte-reads
-use Rattle.report.proofs.+put_number.{statement}
-use Rattle.report.proofs.+put_number.Tie.{close}
+use Rattle.decimal.proofs.put_number.Reads as put-number
+use Rattle.decimal.proofs.put_number.Kinds as put-number-kinds
+use Rattle.decimal.proofs.+put_number.Lts-put_number as put-number-lts
+use Rattle.decimal.proofs.put_byte.Reads as put-byte-reads
+use Rattle.decimal.proofs.+put_number.{statement}
+use Rattle.decimal.proofs.+put_number.Tie.{close}
 
 abbrev μ-put-number : Measures 1 put-number-kinds.ps ℕ
 μ-put-number κs a = a .0

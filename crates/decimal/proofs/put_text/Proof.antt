@@ -1,18 +1,16 @@
--- `report::put_text` meets its contract. What is left of the text is what is left to be written.
+-- `decimal::put_text` meets its contract. What is left of the text is what is left to be written.
 -- Assumes nothing.
-use Prim.Native.Nat.{ℕ, suc, _+_, _-_, _≤_, _<_}
-use mathlib.Core.Path.{_≡_, ap, _∙_}
+use Prim.Native.Nat.{_-_}
+use mathlib.Core.Path.{ap}
 use mathlib.Core.List.{[], _∷_}
 use native.Mathlib.Omega.{arith}
-use native.Mathlib.Numerals.{add-one}
 use denote.Ref.{now}
 use lib.ListN.{length, drop}
-use lib.Seq.{drop-cons}
 use Rattle.answer.proofs.Spaces.{Writing, writing-start, writing-room, writing-length, writing-next, writing-end}
-use Rattle.report.proofs.Putting.{text-more, text-end}
+use Rattle.decimal.proofs.Putting.{text-more, text-end}
 use borrow.Author.Needs.{needs}
-use Rattle.report.proofs.put_text.Statement.{statement}
-use Rattle.report.proofs.put_text.Tie as tie
+use Rattle.decimal.proofs.put_text.Statement.{statement}
+use Rattle.decimal.proofs.put_text.Tie as tie
 
 abbrev Inv-loop : tie.InvT-loop
 Inv-loop text out₀ at i₀ k₀ out i k = Writing text out₀ at out i (drop k text)

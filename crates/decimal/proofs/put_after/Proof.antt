@@ -1,9 +1,9 @@
--- `report::put_after` meets its contract.
+-- `decimal::put_after` meets its contract.
 -- Assumes nothing.
-use Rattle.report.proofs.Putting.{put-blank}
+use Rattle.decimal.proofs.Putting.{put-blank}
 use borrow.Author.Needs.{needs}
-use Rattle.report.proofs.put_after.Statement.{statement}
-use Rattle.report.proofs.put_after.Tie as tie
+use Rattle.decimal.proofs.put_after.Statement.{statement}
+use Rattle.decimal.proofs.put_after.Tie as tie
 
 returns : tie.Need-returns
 returns c = put-blank _ _ _ _ _ _ _ (c .before .before .before .before .before .before .put-byte .ensures) (c .before .before .put-number .ensures)

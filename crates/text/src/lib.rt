@@ -1,0 +1,1 @@
+// Group CNF text: definitions and laws, no code.

@@ -1,0 +1,2 @@
+-- What a line after the `p` line adds.
+pub mod Steps

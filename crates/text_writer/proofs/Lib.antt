@@ -1,0 +1,3 @@
+-- The laws that the functions' proofs cite.
+mod Putting
+pub mod Texts

@@ -1,0 +1,2 @@
+-- What turning a book into text answers, and what it writes.
+pub mod ToText

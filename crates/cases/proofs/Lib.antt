@@ -3,3 +3,4 @@ pub mod BookX
 pub mod Refusals
 pub mod Choices
 pub mod Starred
+pub mod Texts

@@ -120,6 +120,12 @@ impl Book {
         bytes
     }
 
+    /// Refusal 1 of a book that is to be written.
+    pub(crate) fn not_too_long(&self) -> Result<(), Refusal> {
+        let length = 10 + self.clauses.iter().map(|clause| 7 + 2 * clause.body.len()).sum::<usize>();
+        refuse_if(length > LONGEST_BOOK, 1, 0)
+    }
+
     /// The choice of every group.
     pub fn all_groups(&self) -> u32 {
         u32::try_from((1u64 << self.groups) - 1).expect("a book has at most 32 groups")

@@ -1,4 +1,4 @@
-//! The seven calls with their lent spaces.
+//! The nine calls with their lent spaces.
 use crate::book::Book;
 use crate::explaining::smallest;
 use crate::rounds::{Record, Rounds, EXPLANATION, REPAIR};
@@ -18,6 +18,14 @@ pub fn read(book: &[u8], out: &mut [i32]) -> Answer {
 
 pub fn write(plain: &[i32], out: &mut [u8]) -> Answer {
     lay(&Book::from_plain(plain)?.bytes(), out)
+}
+
+pub fn from_text(text: &[u8], out: &mut [u8]) -> Answer {
+    lay(&Book::from_text(text)?.bytes(), out)
+}
+
+pub fn to_text(book: &[u8], out: &mut [u8]) -> Answer {
+    lay(&Book::read(book)?.text(), out)
 }
 
 pub fn ask(book: &[u8], choice: u32, out: &mut [u8], work: &mut [u16]) -> Answer {

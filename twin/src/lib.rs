@@ -1,4 +1,4 @@
-//! The calls of document 01 a second time, written from its definitions and sharing nothing with the engine.
+//! The calls of document 01, and of document 02 as far as it has landed, a second time, written from their definitions and sharing nothing with the engine.
 //!
 //! The calls are plain: a choice is explained by trying the choices within it from the smallest number up, and a seed is looked for among all choices from the
 //! largest number down. Where there are too many choices for that, a second way takes over, which the tests here hold to the first. `fast` is a listing made for
@@ -14,6 +14,7 @@ pub mod meaning;
 pub mod plain;
 pub mod random;
 pub mod rounds;
+pub mod text;
 
 /// A refusal by its number in the table, and its place.
 #[derive(Debug, Clone, Copy, PartialEq, Eq)]

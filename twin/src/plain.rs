@@ -1,5 +1,5 @@
 //! Plain forms of rule books.
-use crate::book::{Book, Clause, LONGEST_BODY, LONGEST_BOOK, MOST_CLAUSES, MOST_GROUPS, MOST_VARIABLES};
+use crate::book::{Book, Clause, LONGEST_BODY, MOST_CLAUSES, MOST_GROUPS, MOST_VARIABLES};
 use crate::{refuse_if, Refusal};
 
 impl Book {
@@ -29,8 +29,7 @@ impl Book {
             book.clauses.push(clause);
             at = next;
         }
-        let length = 10 + book.clauses.iter().map(|clause| 7 + 2 * clause.body.len()).sum::<usize>();
-        refuse_if(length > LONGEST_BOOK, 1, 0)?;
+        book.not_too_long()?;
         Ok(book)
     }
 }

@@ -68,7 +68,8 @@ impl Returned {
     fn values<const N: usize>(&self) -> Result<[usize; N], Refusal> {
         let told = if self.status == 0 { N } else { 1 };
         let rest_is_zero = self.answer[1 + told..].iter().all(|&word| word == 0);
-        if self.answer[0] != told as u64 || !rest_is_zero || self.status > 14 || self.answer.contains(&UNWRITTEN) {
+        let known = matches!(self.status, 0..=14 | 20..=22);
+        if self.answer[0] != told as u64 || !rest_is_zero || !known || self.answer.contains(&UNWRITTEN) {
             self.broken();
         }
         // Lossless: the archive is for x86-64 alone, where usize has 64 bits.
@@ -171,7 +172,9 @@ mod tests {
         for answer in [[1, 2, 0, 0], [1, 1 << 32, 0, 0]] {
             assert_broken(|returned| returned.explained(CHOICE), 0, answer);
         }
-        assert_broken(Returned::counts, 15, [1, 0, 0, 0]);
+        for status in [15, 19, 23] {
+            assert_broken(Returned::counts, status, [1, 0, 0, 0]);
+        }
         assert_broken(Returned::counts, 2, [1, 0, 1, 0]);
         assert_broken(Returned::counts, 2, [0, 0, 0, 0]);
         assert_broken(Returned::counts, 2, [1, UNWRITTEN, 0, 0]);
@@ -193,5 +196,8 @@ mod tests {
         assert_eq!(returned(0, [1, 5, 0, 0]).explained(CHOICE), Ok(Explained::Explanation { groups: 5 }));
         assert_eq!(returned(14, [1, 7, 0, 0]).asked(), Err(Refusal { number: 14, place: 7 }));
         assert_eq!(returned(0, [1, 10, 0, 0]).written(10), Ok(10));
+        for number in (1..=14).chain(20..=22) {
+            assert_eq!(returned(number, [1, 7, 0, 0]).written(10), Err(Refusal { number, place: 7 }));
+        }
     }
 }

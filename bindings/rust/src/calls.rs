@@ -57,6 +57,48 @@ pub fn write(plain: &[i32], out: &mut [u8]) -> Result<usize, Refusal> {
     raw::write(plain, out).written(out.len().min(BOOK_BYTES))
 }
 
+/// Turns group CNF text into a book. Gives how many bytes were written: 10, and for each clause 7 and 2 for each variable of its body.
+///
+/// Lines are comments, which begin with `c`, blank, or, with blanks and tabs around and between words, the line `p gcnf` with variables, clauses and groups,
+/// and behind it one clause a line: its group in braces, literals in any order, also repeated, and 0.
+///
+/// Afterwards `out` begins with the book, in which each literal stands once; what follows in it stays. [`book_of_text`](crate::book_of_text) finds the space
+/// itself.
+///
+/// ```
+/// let mut out = [9; 27];
+/// assert_eq!(badolkhup::from_text(b"c one clause\np gcnf 2 1 1\n{1} 2 -1 -1 0\n", &mut out), Ok(19));
+/// assert_eq!(out[7..20], [2, 0, 6, 0, 1, 0, 2, 0, 1, 0, 0, 0, 9]);
+/// assert_eq!(badolkhup::from_text(b"{1} 2 0\n", &mut out), Err(badolkhup::Refusal { number: 22, place: 1 }));
+/// ```
+///
+/// # Errors
+/// Refusals 22, 7, 20, 6 and 5 of a line, at its number from 1; then 22 at 0 where there is no `p` line, 21 where its count of clauses is wrong, 1 where the
+/// book would be too long and 11 where `out` is shorter than it.
+pub fn from_text(text: &[u8], out: &mut [u8]) -> Result<usize, Refusal> {
+    raw::from_text(text, out).written(out.len().min(BOOK_BYTES))
+}
+
+/// Writes a book as group CNF text: the `p` line, then a line for each clause with its group in braces, its body, its head if any, and 0. Gives how many bytes
+/// were written.
+///
+/// Afterwards `out` begins with the text; what follows in it stays. [`from_text`] turns it into the same book again. [`text_of`](crate::text_of) finds the
+/// space itself.
+///
+/// ```
+/// let book = std::fs::read("../../examples/x.book").unwrap();
+/// let mut out = [b'.'; 80];
+/// assert_eq!(badolkhup::to_text(&book, &mut out), Ok(71));
+/// assert!(out.starts_with(b"p gcnf 3 6 5\n{0} -3 0\n{1} 1 0\n{2} -1 3 0\n"));
+/// assert_eq!(out[70..], *b"\n.........");
+/// ```
+///
+/// # Errors
+/// Refusals 1 to 9; 11 where `out` is shorter than the text.
+pub fn to_text(book: &[u8], out: &mut [u8]) -> Result<usize, Refusal> {
+    raw::to_text(book, out).written(out.len())
+}
+
 /// Asks whether a choice is consistent, and which variables it forces. In `choice`, group g adds 2^(g−1); the core is in force in every choice.
 ///
 /// `out` has at least one byte for each variable, `work` at least [`WORK_WORDS`](crate::WORK_WORDS) words. Afterwards, in both answers, the first bytes of `out` tell for each

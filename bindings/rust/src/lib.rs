@@ -18,7 +18,8 @@
 //! # Ok::<(), badolkhup::Refusal>(())
 //! ```
 //!
-//! Beneath are the seven calls of the archive, over spaces that the caller lends: [`check`], [`read`], [`write()`], [`ask`], [`explain`], [`round`] and [`list`].
+//! Beneath are the nine calls of the archive, over spaces that the caller lends: [`check`], [`read`], [`write()`], [`from_text`], [`to_text`], [`ask`],
+//! [`explain`], [`round`] and [`list`].
 //! Each takes every input, and either answers or is refused by number and place; a [`Refusal`] leaves every lent space as it came. Calls keep no
 //! state, so any thread may make them.
 //!
@@ -42,11 +43,11 @@ mod raw;
 mod refusal;
 
 pub use answers::{Asked, Counts, Explained, Listed};
-pub use calls::{ask, check, explain, list, read, round, write};
+pub use calls::{ask, check, explain, from_text, list, read, round, to_text, write};
 pub use groups::Groups;
 pub use limits::{BODY, BOOK_BYTES, CLAUSES, EXPLANATION, GROUPS, REPAIR, VARIABLES, WORK_WORDS};
 pub use listing::{Found, Listing, Record};
-pub use owned::{book_of, forced, plain_form};
+pub use owned::{book_of, book_of_text, forced, plain_form, text_of};
 pub use refusal::Refusal;
 
 // The page's Rust code is compiled and run with the doc tests.

@@ -1,7 +1,7 @@
 //! Reading, writing and asking in spaces that are found here.
 #![forbid(unsafe_code)]
 use crate::answers::Asked;
-use crate::calls::{ask, check, read, write};
+use crate::calls::{ask, check, from_text, read, to_text, write};
 use crate::limits::{BOOK_BYTES, WORK_WORDS};
 use crate::refusal::Refusal;
 
@@ -31,6 +31,33 @@ pub fn book_of(plain: &[i32]) -> Result<Vec<u8>, Refusal> {
     // A clause has 7 bytes for its first two numbers, the group and the 0, and at most 2 for each other.
     let most = plain.len().saturating_mul(4).saturating_add(10).min(BOOK_BYTES);
     filled(most, |out| write(plain, out))
+}
+
+/// The book of a group CNF text, as [`from_text`] writes it.
+///
+/// ```
+/// let text = std::fs::read("../../examples/x.gcnf").unwrap();
+/// let book = badolkhup::book_of_text(&text).unwrap();
+/// assert_eq!(Ok(book.clone()), badolkhup::book_of(&[3, 5, 0, -3, 0, 1, 1, 0, 2, -1, 3, 0, 3, 2, 0, 4, -2, 3, 0, 5, -1, 2, 0]));
+/// assert_eq!(badolkhup::text_of(&book), Ok(text));
+/// ```
+///
+/// # Errors
+/// Those of [`from_text`] without 11.
+pub fn book_of_text(text: &[u8]) -> Result<Vec<u8>, Refusal> {
+    // The 10 bytes around the clauses come of 12 at least, the 7 of a clause of 6 with the line feed before it, and the 2 of a body variable of 3.
+    let most = text.len().saturating_mul(2).min(BOOK_BYTES);
+    filled(most, |out| from_text(text, out))
+}
+
+/// The group CNF text of a book, as [`to_text`] writes it.
+///
+/// # Errors
+/// Refusals 1 to 9.
+pub fn text_of(book: &[u8]) -> Result<Vec<u8>, Refusal> {
+    // The 10 bytes around the clauses make at most 20, the 7 of a clause at most 12, and the 2 of a body variable at most 6.
+    let most = 3 * book.len().min(BOOK_BYTES);
+    filled(most, |out| to_text(book, out))
 }
 
 /// What a call writes into at most so many elements.

@@ -15,6 +15,8 @@ extern "C" {
     fn badolkhup_check(book: *const u8, book_len: usize, answer: *mut [u64; 4]) -> u32;
     fn badolkhup_read(book: *const u8, book_len: usize, out: *mut i32, out_len: usize, answer: *mut [u64; 4]) -> u32;
     fn badolkhup_write(plain: *const i32, plain_len: usize, out: *mut u8, out_len: usize, answer: *mut [u64; 4]) -> u32;
+    fn badolkhup_from_text(text: *const u8, text_len: usize, out: *mut u8, out_len: usize, answer: *mut [u64; 4]) -> u32;
+    fn badolkhup_to_text(book: *const u8, book_len: usize, out: *mut u8, out_len: usize, answer: *mut [u64; 4]) -> u32;
     fn badolkhup_ask(book: *const u8, book_len: usize, choice: u32, out: *mut u8, out_len: usize, work: *mut u16, work_len: usize, answer: *mut [u64; 4]) -> u32;
     fn badolkhup_explain(book: *const u8, book_len: usize, choice: u32, work: *mut u16, work_len: usize, answer: *mut [u64; 4]) -> u32;
     fn badolkhup_round(book: *const u8, book_len: usize, records: *mut u32, records_len: usize, count: usize, work: *mut u16, work_len: usize, answer: *mut [u64; 4]) -> u32;
@@ -45,6 +47,20 @@ pub(crate) fn write(plain: &[i32], out: &mut [u8]) -> Returned {
     // SAFETY: as said above of plain, out and answer.
     let status = unsafe { badolkhup_write(plain.as_ptr(), plain.len(), out.as_mut_ptr(), out.len(), &mut answer) };
     Returned { call: "badolkhup_write", status, answer }
+}
+
+pub(crate) fn from_text(text: &[u8], out: &mut [u8]) -> Returned {
+    let mut answer = [UNWRITTEN; 4];
+    // SAFETY: as said above of text, out and answer.
+    let status = unsafe { badolkhup_from_text(text.as_ptr(), text.len(), out.as_mut_ptr(), out.len(), &mut answer) };
+    Returned { call: "badolkhup_from_text", status, answer }
+}
+
+pub(crate) fn to_text(book: &[u8], out: &mut [u8]) -> Returned {
+    let mut answer = [UNWRITTEN; 4];
+    // SAFETY: as said above of book, out and answer.
+    let status = unsafe { badolkhup_to_text(book.as_ptr(), book.len(), out.as_mut_ptr(), out.len(), &mut answer) };
+    Returned { call: "badolkhup_to_text", status, answer }
 }
 
 #[rustfmt::skip] // One space a line.

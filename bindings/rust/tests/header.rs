@@ -110,7 +110,7 @@ fn in_rust() -> Signatures {
 
 #[test]
 fn the_declarations_agree() {
-    assert_eq!(in_header().len(), 7);
+    assert_eq!(in_header().len(), 9);
     assert_eq!(in_header(), in_rattle());
     assert_eq!(in_header(), in_rust());
 }
@@ -151,7 +151,7 @@ fn the_constants_agree() {
 
 #[test]
 fn every_refusal_is_documented() {
-    let all: Vec<u32> = (1..=14).collect();
+    let all: Vec<u32> = (1..=14).chain(20..=22).collect();
     let table = HEADER.split_once("REFUSALS.").unwrap().1.split_once("*/").unwrap().0;
     let rows = table.lines().filter_map(|line| line.split_whitespace().next()?.parse::<u32>().ok());
     assert_eq!(rows.collect::<Vec<_>>(), all);

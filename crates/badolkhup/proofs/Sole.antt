@@ -1,5 +1,5 @@
 -- The contracts of the exported calls determine what crosses and what every space holds.
---   count-crosses-one        of read and write; of check it is `crosses-one`
+--   count-crosses-one        of read, write, from_text and to_text; of check it is `crosses-one`
 --   ask-crosses-one          of ask
 --   explain-crosses-one      of explain
 --   list-crosses-one         of round and list

@@ -10,6 +10,8 @@ ghost use Rattle.records.specs.Words.{room};
 ghost use Rattle.book.specs.Check.{checkedIs, checking};
 ghost use Rattle.reader.specs.Reads.{reads};
 ghost use Rattle.writer.specs.Writes.{writes};
+ghost use Rattle.text_reader.specs.FromText.{fromText};
+ghost use Rattle.text_writer.specs.ToText.{toText};
 ghost use Rattle.ask.specs.Asks.{askedIs, asks, Asking};
 ghost use Rattle.explain.specs.Explains.{explainedIs, explains, Explaining};
 ghost use Rattle.list.specs.Lists.{listedIs, lists, Listing};
@@ -132,6 +134,22 @@ pub extern "C" fn badolkhup_write(plain: &[i32], out: &mut [u8], answer: &mut [u
         × (now (out .exit) ≡ laid (writes (now (plain .entry)) (length (now (out .entry)))) (now (out .entry))) ⌝ }
 {
     cross_written(writer::write(plain, out), answer)
+}
+
+#[no_mangle]
+pub extern "C" fn badolkhup_from_text(text: &[u8], out: &mut [u8], answer: &mut [u64; 4]) -> u32
+    ensures { λ r. ⌜ Crosses (counted (fromText (now (text .entry)) (length (now (out .entry))))) r (now (answer .exit))
+        × (now (out .exit) ≡ laid (fromText (now (text .entry)) (length (now (out .entry)))) (now (out .entry))) ⌝ }
+{
+    cross_written(text_reader::from_text(text, out), answer)
+}
+
+#[no_mangle]
+pub extern "C" fn badolkhup_to_text(book: &[u8], out: &mut [u8], answer: &mut [u64; 4]) -> u32
+    ensures { λ r. ⌜ Crosses (counted (toText (now (book .entry)) (length (now (out .entry))))) r (now (answer .exit))
+        × (now (out .exit) ≡ laid (toText (now (book .entry)) (length (now (out .entry)))) (now (out .entry))) ⌝ }
+{
+    cross_written(text_writer::to_text(book, out), answer)
 }
 
 #[no_mangle]

@@ -1,7 +1,8 @@
-//! The calls, and what stands on them, on inputs whose answers document 01 gives; every lent space is compared afterwards.
+//! The calls, and what stands on them, on inputs whose answers documents 01 and 02 give; every lent space is compared afterwards.
 mod cases;
 mod listing;
 mod refusals;
+mod text;
 
 /// Stands in every lent space, to see what a call leaves.
 const MARK: u8 = 0xA5;

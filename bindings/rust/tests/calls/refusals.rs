@@ -1,7 +1,7 @@
 //! Every refusal through the safe calls: number, place, and that every lent space stays as it came.
 use crate::{assert_untouched, x, MARK};
-use badolkhup::{ask, check, explain, list, read, round, write};
-use badolkhup::{book_of, plain_form, Counts, Refusal, BOOK_BYTES, WORK_WORDS};
+use badolkhup::{ask, check, explain, from_text, list, read, round, to_text, write};
+use badolkhup::{book_of, plain_form, text_of, Counts, Refusal, BOOK_BYTES, WORK_WORDS};
 use std::collections::BTreeSet;
 
 /// A book of one clause whose field is given, with 3 variables and 1 group.
@@ -16,6 +16,7 @@ fn assert_book_refused(book: &[u8], number: u32, place: usize) {
     let mut work = [MARK.into(); WORK_WORDS];
     assert_eq!(check(book), Err(refusal));
     assert_eq!(read(book, &mut numbers), Err(refusal));
+    assert_eq!(to_text(book, &mut out), Err(refusal));
     assert_eq!(ask(book, 0, &mut out, &mut work), Err(refusal));
     assert_eq!(explain(book, 0, &mut work), Err(refusal));
     assert_eq!(round(book, &mut records, 0, &mut work), Err(refusal));
@@ -29,6 +30,13 @@ fn assert_book_refused(book: &[u8], number: u32, place: usize) {
 fn assert_plain_refused(plain: &[i32], number: u32, place: usize) {
     let mut out = [MARK; 90];
     assert_eq!(write(plain, &mut out), Err(Refusal { number, place }), "{plain:?}");
+    assert_untouched(&out);
+}
+
+/// The text is refused at a line, or at 0 for what is known only at its end.
+fn assert_text_refused(text: &str, number: u32, place: usize) {
+    let mut out = [MARK; 90];
+    assert_eq!(from_text(text.as_bytes(), &mut out), Err(Refusal { number, place }), "{text}");
     assert_untouched(&out);
 }
 
@@ -66,6 +74,32 @@ fn of_a_plain_form() {
 }
 
 #[test]
+fn of_a_text() {
+    let body = |length: usize| -> String { (1..=length).map(|v| format!("-{v} ")).collect() };
+    let text = |line: &str| format!("c\np gcnf 40 1 2\n{line}\n");
+    assert_text_refused(&text(&format!("{{0}} {}0", body(33))), 5, 3);
+    assert_text_refused(&format!("p gcnf 1 0 0\n{}", "{0} 0\n".repeat(2_049)), 6, 2_050);
+    for line in ["{3} 0", "{0} 41 0", "{0} -18446744073709551617 0", "{4294967296} 0"] {
+        assert_text_refused(&text(line), 7, 3);
+    }
+    assert_text_refused("p gcnf 1 2049 0", 7, 1);
+    assert_text_refused(&text("{1} 1 -3 2 0"), 20, 3);
+    assert_text_refused(&text(""), 21, 2);
+    assert_text_refused(&text("{1} 0\n{1} 0"), 21, 2);
+    for line in ["{1}2 0", "{ 1} 2 0", "{1} 2", "{1} 2 0 0", "{1} -0 0", "{1} +2 0", " c", "\r", "p gcnf 40 1 2"] {
+        assert_text_refused(&text(line), 22, 3);
+    }
+    assert_text_refused("{1} 0\np gcnf 40 1 2", 22, 1);
+    assert_text_refused("c only\n\n", 22, 0);
+    assert_text_refused("", 22, 0);
+    // 923 clauses of 71 bytes would make 65,543.
+    let clauses = |count: usize| format!("p gcnf 32 {count} 0\n{}", format!("{{0}} {}0\n", body(32)).repeat(count));
+    assert_text_refused(&clauses(923), 1, 0);
+    assert_text_refused(&clauses(922), 11, 0);
+    assert!(badolkhup::book_of_text(clauses(922).as_bytes()).is_ok());
+}
+
+#[test]
 fn of_a_choice() {
     let (mut out, mut work) = ([MARK; 3], [MARK.into(); WORK_WORDS]);
     for (choice, group) in [(32, 6), (1 << 31, 32), (u32::MAX, 6)] {
@@ -86,6 +120,12 @@ fn of_too_small_a_space() {
     assert_eq!(read(&x(), &mut numbers), Err(refusal));
     assert_untouched(&numbers);
     assert_eq!(write(&plain_form(&x()).unwrap(), &mut bytes), Err(refusal));
+    assert_untouched(&bytes);
+    let text = text_of(&x()).unwrap();
+    assert_eq!(from_text(&text, &mut bytes), Err(refusal));
+    assert_untouched(&bytes);
+    let mut bytes = vec![MARK; text.len() - 1];
+    assert_eq!(to_text(&x(), &mut bytes), Err(refusal));
     assert_untouched(&bytes);
     assert_eq!(ask(&x(), 0, &mut out[..2], &mut work), Err(refusal));
     assert_eq!(ask(&x(), 0, &mut out, &mut work[..short]), Err(refusal));
@@ -136,7 +176,7 @@ fn at_the_limits() {
 #[test]
 fn each_has_a_sentence_of_its_own() {
     let sentence = |number| Refusal { number, place: 0 }.to_string().split_once(": ").unwrap().1.to_owned();
-    let sentences: BTreeSet<String> = (0..=14).map(sentence).collect();
+    let sentences: BTreeSet<String> = (0..=14).chain(20..=22).map(sentence).collect();
     // 0 stands for what is no refusal.
-    assert_eq!(sentences.len(), 15);
+    assert_eq!(sentences.len(), 18);
 }

@@ -1,6 +1,6 @@
-//! One input made from random numbers: a call, a book or a plain form, and lent spaces of many sizes.
+//! One input made from random numbers: a call, a book, a plain form or a text, and lent spaces of many sizes.
 use crate::input::{Call, Input, Lent, CALLS};
-use crate::{books, damage};
+use crate::{books, damage, text_damage, texts};
 use twin::book::Book;
 use twin::calls::WORK_WORDS;
 use twin::explaining::FEW_GROUPS;
@@ -11,19 +11,22 @@ pub fn input(random: &mut Random) -> Input {
     let call = random.pick(&CALLS);
     let book = books::any(random);
     let damaged = random.once_in(3);
-    if call == Call::Write {
-        return write(random, &book, damaged);
+    match call {
+        Call::Write => return write(random, &book, damaged),
+        Call::FromText => return from_text(random, &book, damaged),
+        _ => {}
     }
     let bytes = if damaged { damage::bytes(random, &book) } else { book.bytes() };
     let mut input = Input::new(random, call, &bytes);
     input.choice = choice(random, &book);
     match call {
         Call::Read => input.numbers = space(random, book.plain().len()),
+        Call::ToText => input.bytes = space(random, book.text().len()),
         Call::Ask => input.bytes = space(random, book.variables),
         Call::Round | Call::List => (input.records, input.count) = records(random, &book),
         _ => {}
     }
-    if !matches!(call, Call::Check | Call::Read) {
+    if !matches!(call, Call::Check | Call::Read | Call::ToText) {
         input.work = work(random);
     }
     input
@@ -33,6 +36,15 @@ fn write(random: &mut Random, book: &Book, damaged: bool) -> Input {
     let plain = if damaged { damage::plain(random, book) } else { book.plain() };
     let mut input = Input::new(random, Call::Write, &[]);
     input.plain = Lent::of(random, &plain);
+    input.bytes = space(random, book.bytes().len());
+    input
+}
+
+fn from_text(random: &mut Random, book: &Book, damaged: bool) -> Input {
+    let damaged = damaged || random.once_in(4);
+    let text = if damaged { text_damage::text(random, book) } else { texts::any(random, book) };
+    let mut input = Input::new(random, Call::FromText, &[]);
+    input.text = Lent::of(random, &text);
     input.bytes = space(random, book.bytes().len());
     input
 }

@@ -7,13 +7,25 @@ pub enum Call {
     Check,
     Read,
     Write,
+    FromText,
+    ToText,
     Ask,
     Explain,
     Round,
     List,
 }
 
-pub const CALLS: [Call; 7] = [Call::Check, Call::Read, Call::Write, Call::Ask, Call::Explain, Call::Round, Call::List];
+pub const CALLS: [Call; 9] = [
+    Call::Check,
+    Call::Read,
+    Call::Write,
+    Call::FromText,
+    Call::ToText,
+    Call::Ask,
+    Call::Explain,
+    Call::Round,
+    Call::List,
+];
 
 impl fmt::Display for Call {
     fn fmt(&self, f: &mut fmt::Formatter<'_>) -> fmt::Result {
@@ -81,6 +93,7 @@ pub struct Input {
     pub call: Call,
     pub book: Lent<u8>,
     pub plain: Lent<i32>,
+    pub text: Lent<u8>,
     pub numbers: Lent<i32>,
     pub bytes: Lent<u8>,
     pub records: Lent<u32>,
@@ -95,6 +108,7 @@ impl Input {
             call,
             book: Lent::of(random, book),
             plain: Lent::of(random, &[]),
+            text: Lent::of(random, &[]),
             numbers: Lent::of(random, &[]),
             bytes: Lent::of(random, &[]),
             records: Lent::of(random, &[]),
@@ -109,6 +123,7 @@ impl Input {
         self.book
             .difference(&twin.book, "book")
             .or_else(|| self.plain.difference(&twin.plain, "plain form"))
+            .or_else(|| self.text.difference(&twin.text, "text"))
             .or_else(|| self.numbers.difference(&twin.numbers, "numbers out"))
             .or_else(|| self.bytes.difference(&twin.bytes, "bytes out"))
             .or_else(|| self.records.difference(&twin.records, "records"))
@@ -135,6 +150,7 @@ impl fmt::Display for Input {
         writeln!(f, "  call {}, choice {}, count {}", self.call, self.choice, self.count)?;
         show(f, "book", self.book.part(), |byte| format!(" {byte:02x}"))?;
         show(f, "plain form", self.plain.part(), |number| format!(" {number}"))?;
+        show(f, "text", self.text.part(), |byte| byte.escape_ascii().to_string())?;
         show(f, "records given", self.given(), |word| format!(" {word}"))?;
         let (numbers, bytes) = (self.numbers.part().len(), self.bytes.part().len());
         let (words, work) = (self.records.part().len(), self.work.part().len());

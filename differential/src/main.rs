@@ -13,6 +13,8 @@ mod run;
 mod sequences;
 mod sides;
 mod tally;
+mod text_damage;
+mod texts;
 #[cfg(test)]
 mod wrong;
 

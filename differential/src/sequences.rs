@@ -3,6 +3,7 @@ use crate::books;
 use crate::input::{Call, Input, Lent};
 use crate::sides::{compare, Side};
 use crate::tally::Tally;
+use crate::texts;
 use twin::book::{Book, Clause};
 use twin::calls::WORK_WORDS;
 use twin::definitions::Defined;
@@ -86,9 +87,10 @@ fn grown(old: &Listing, new: &Listing, added: u32) -> Result<(), String> {
 impl Steps<'_> {
     /// One sequence of any kind.
     pub fn any(&mut self) -> Result<(), String> {
-        match self.random.below(8) {
+        match self.random.below(9) {
             0..2 => self.inverses(),
-            2..5 => self.whole_listing(),
+            2 => self.texts(),
+            3..6 => self.whole_listing(),
             _ => self.growth(),
         }
     }
@@ -118,6 +120,28 @@ impl Steps<'_> {
         input.numbers = Lent::new(self.random, &[], book.plain().len());
         let (_, again) = compare(self.engine, &input, self.tally)?;
         holds(again.numbers.part() == read.numbers.part(), "read again it is another plain form")
+    }
+
+    /// Text to book to text to book: the same book both times, and the text that is written is taken as it stands.
+    fn texts(&mut self) -> Result<(), String> {
+        let book = books::any(self.random);
+        let text = texts::any(self.random, &book);
+        let first = self.taken(&text, book.bytes().len())?;
+        holds(first == book.bytes(), "a text of a book becomes another book")?;
+        let mut input = Input::new(self.random, Call::ToText, &first);
+        input.bytes = Lent::new(self.random, &[], book.text().len());
+        let (_, written) = compare(self.engine, &input, self.tally)?;
+        let again = self.taken(written.bytes.part(), first.len())?;
+        holds(again == first, "text to book to text to book ends with another book")
+    }
+
+    /// What a text becomes in so much room.
+    fn taken(&mut self, text: &[u8], room: usize) -> Result<Vec<u8>, String> {
+        let mut input = Input::new(self.random, Call::FromText, &[]);
+        input.text = Lent::of(self.random, text);
+        input.bytes = Lent::new(self.random, &[], room);
+        let (_, taken) = compare(self.engine, &input, self.tally)?;
+        Ok(taken.bytes.part().to_vec())
     }
 
     /// A listing begun empty is as defined, and comes out the same in less room and by rounds.

@@ -12,6 +12,8 @@ pub fn by_twin(input: &mut Input) -> Answer {
         Call::Check => twin::calls::check(book),
         Call::Read => twin::calls::read(book, input.numbers.part_mut()),
         Call::Write => twin::calls::write(input.plain.part(), input.bytes.part_mut()),
+        Call::FromText => twin::calls::from_text(input.text.part(), input.bytes.part_mut()),
+        Call::ToText => twin::calls::to_text(book, input.bytes.part_mut()),
         Call::Ask => twin::calls::ask(book, input.choice, input.bytes.part_mut(), work),
         Call::Explain => twin::calls::explain(book, input.choice, work),
         Call::Round => twin::calls::round(book, input.records.part_mut(), input.count, work),
@@ -25,6 +27,8 @@ pub fn by_engine(input: &mut Input) -> Answer {
         Call::Check => badolkhup::check(book).map(counts),
         Call::Read => badolkhup::read(book, input.numbers.part_mut()).map(written),
         Call::Write => badolkhup::write(input.plain.part(), input.bytes.part_mut()).map(written),
+        Call::FromText => badolkhup::from_text(input.text.part(), input.bytes.part_mut()).map(written),
+        Call::ToText => badolkhup::to_text(book, input.bytes.part_mut()).map(written),
         Call::Ask => badolkhup::ask(book, input.choice, input.bytes.part_mut(), work).map(asked),
         Call::Explain => badolkhup::explain(book, input.choice, work).map(explained),
         Call::Round => badolkhup::round(book, input.records.part_mut(), input.count, work).map(listed),
@@ -102,19 +106,35 @@ mod tests {
         assert_eq!(compare(by_engine, &input, tally).map(|_| ()), Ok(()));
     }
 
-    /// Book X cut at every place, without each byte, and with every value in the place of each byte and before it.
-    #[test]
-    fn every_edit_of_x() {
+    /// The engine takes a text as the twin does.
+    fn takes_alike(random: &mut Random, tally: &mut Tally, text: &[u8]) {
+        let mut input = Input::new(random, Call::FromText, &[]);
+        input.text = Lent::of(random, text);
+        input.bytes = Lent::new(random, &[], 70);
+        assert_eq!(compare(by_engine, &input, tally).map(|_| ()), Ok(()));
+    }
+
+    /// Bytes cut at every place, without each byte, and with every value in the place of each byte and before it.
+    fn every_edit(bytes: &[u8], alike: fn(&mut Random, &mut Tally, &[u8])) {
         let (mut random, mut tally) = (Random::new(0, 0), Tally::default());
-        let x = books::x().bytes();
-        for at in 0..x.len() {
-            reads_alike(&mut random, &mut tally, &x[..at]);
-            reads_alike(&mut random, &mut tally, &[&x[..at], &x[at + 1..]].concat());
+        for at in 0..bytes.len() {
+            alike(&mut random, &mut tally, &bytes[..at]);
+            alike(&mut random, &mut tally, &[&bytes[..at], &bytes[at + 1..]].concat());
             for value in 0..=255 {
-                reads_alike(&mut random, &mut tally, &[&x[..at], &[value], &x[at + 1..]].concat());
-                reads_alike(&mut random, &mut tally, &[&x[..at], &[value], &x[at..]].concat());
+                alike(&mut random, &mut tally, &[&bytes[..at], &[value], &bytes[at + 1..]].concat());
+                alike(&mut random, &mut tally, &[&bytes[..at], &[value], &bytes[at..]].concat());
             }
         }
-        assert_eq!(tally.calls(), 60 * 514);
+        assert_eq!(tally.calls(), bytes.len() as u64 * 514);
+    }
+
+    #[test]
+    fn every_edit_of_x() {
+        every_edit(&books::x().bytes(), reads_alike);
+    }
+
+    #[test]
+    fn every_edit_of_x_as_text() {
+        every_edit(&books::x().text(), takes_alike);
     }
 }

@@ -32,7 +32,7 @@ const STOPPED_ADDED: &str = "stopped, added";
 fn answers(call: Call) -> &'static [&'static str] {
     match call {
         Call::Check => &["counts"],
-        Call::Read | Call::Write => &["written, space filled", "written, space left"],
+        Call::Read | Call::Write | Call::FromText | Call::ToText => &["written, space filled", "written, space left"],
         Call::Ask => &["consistent", "contradiction"],
         Call::Explain => &["consistent", "empty explanation", "explanation"],
         Call::Round | Call::List => &[COMPLETE_NOTHING, COMPLETE_FULL, COMPLETE_ROOM, STOPPED_FULL, STOPPED_ADDED],
@@ -43,18 +43,19 @@ fn answers(call: Call) -> &'static [&'static str] {
 fn refusals(call: Call) -> Vec<u32> {
     match call {
         Call::Check => (1..=9).collect(),
-        Call::Read => (1..=9).chain([11]).collect(),
+        Call::Read | Call::ToText => (1..=9).chain([11]).collect(),
         Call::Write => vec![1, 5, 6, 7, 8, 11, 12, 13],
+        Call::FromText => vec![1, 5, 6, 7, 11, 20, 21, 22],
         Call::Ask | Call::Explain => (1..=11).collect(),
         Call::Round | Call::List => (1..=9).chain([11, 14]).collect(),
     }
 }
 
-/// Whether a refusal can be at place 0, and whether it can be beyond. Before a clause there is a header, and groups count from 1.
+/// Whether a refusal can be at place 0, and whether it can be beyond. Before a clause there is a header, and groups and lines count from 1.
 fn places(call: Call, number: u32) -> (bool, bool) {
     match (call, number) {
         (_, 1 | 11) => (true, false),
-        (_, 6 | 8 | 9 | 10 | 13) | (Call::Write, 5) => (false, true),
+        (_, 6 | 8 | 9 | 10 | 13) | (Call::Write, 5) | (Call::FromText, 5 | 7 | 20 | 21) => (false, true),
         _ => (true, true),
     }
 }
@@ -64,7 +65,7 @@ fn kind(input: &Input, values: &[u64]) -> &'static str {
     match input.call {
         Call::Check => kinds[0],
         Call::Read => kinds[usize::from(values[0] < input.numbers.part().len() as u64)],
-        Call::Write => kinds[usize::from(values[0] < input.bytes.part().len() as u64)],
+        Call::Write | Call::FromText | Call::ToText => kinds[usize::from(values[0] < input.bytes.part().len() as u64)],
         Call::Ask => kinds[values.len()],
         Call::Explain => kinds[values.first().map_or(0, |set| 1 + usize::from(*set > 0))],
         Call::Round | Call::List => {

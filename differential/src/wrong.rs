@@ -1,4 +1,6 @@
 //! Engines with one error each, among them those that look right: the run must meet each error, and none in an engine that has none.
+mod texts;
+
 use crate::input::{Call, Input};
 use crate::run::run;
 use crate::sides::{by_twin, Side};
@@ -23,6 +25,7 @@ fn none_where_there_is_none() {
 fn each_error_is_met() {
     let unmet: Vec<&str> = ERRORS
         .iter()
+        .chain(&texts::ERRORS)
         .filter(|error| run(error.1, SEED, 0..CASES, 2).difference.is_none())
         .map(|error| error.0)
         .collect();
@@ -101,7 +104,7 @@ fn with_book(input: &mut Input, change: impl FnOnce(&mut Book)) -> Answer {
     let Ok(mut book) = Book::read(input.book.part()) else {
         return right(input);
     };
-    if matches!(input.call, Call::Check | Call::Read | Call::Write) {
+    if matches!(input.call, Call::Check | Call::Read | Call::Write | Call::ToText) {
         return right(input);
     }
     change(&mut book);
@@ -219,8 +222,10 @@ fn book_changed(input: &mut Input) -> Answer {
 
 fn later_bytes_cleared(input: &mut Input) -> Answer {
     other_spaces(input, |_, after, _| {
-        let variables = Book::read(after.book.part()).map_or(usize::MAX, |book| book.variables);
-        after.bytes.part_mut().iter_mut().skip(variables).for_each(|byte| *byte = 0);
+        if after.call == Call::Ask {
+            let variables = Book::read(after.book.part()).expect("the call answered").variables;
+            after.bytes.part_mut()[variables..].fill(0);
+        }
     })
 }
 

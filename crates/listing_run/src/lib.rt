@@ -1,20 +1,12 @@
 // The run of the listing program, which several programs share.
 use admit::WORK_WORDS;
 use libc::STDIN_FILENO;
-use libc::STDOUT_FILENO;
 
 // Room for so many records.
 const ROOM: usize = 4096;
 
 // The most bytes of a listing of so many: 104 for a record, and 64 for the first and the last line.
 const TEXT: usize = 426048;
-
-fn print_front(out: &[u8], n: usize) {
-    if out.len() < n {
-        return;
-    }
-    io::write_all(STDOUT_FILENO, &out[..n]);
-}
 
 // The functions below lend spaces that are large enough, so none of the tests turns a book away.
 fn print_text(book: &[u8], records: &mut [u32], work: &mut [u16], out: &mut [u8]) {
@@ -28,7 +20,7 @@ fn print_text(book: &[u8], records: &mut [u32], work: &mut [u16], out: &mut [u8]
         return;
     }
     let n = listing::put_text(book, records, work, out);
-    print_front(out, n);
+    tell::front(out, n);
 }
 
 fn print_listing(book: &[u8], records: &mut [u32], work: &mut [u16]) {
@@ -36,7 +28,8 @@ fn print_listing(book: &[u8], records: &mut [u32], work: &mut [u16]) {
     print_text(book, records, work, &mut out);
 }
 
-fn print_book(book: &[u8]) {
+// Prints the listing of a book, with room for 4,096 records; or its refusal.
+pub fn print_book(book: &[u8]) {
     let mut records = [0u32; 8192];
     let mut work = [0u16; 8192];
     print_listing(book, &mut records, &mut work);

@@ -7,28 +7,8 @@ use libc::STDIN_FILENO;
 use libc::STDOUT_FILENO;
 use signed::Signed;
 
-fn blank() {
-    io::write_all(STDOUT_FILENO, b" ");
-}
-
-fn end_line() {
-    io::write_all(STDOUT_FILENO, b"\n");
-}
-
 fn minus() {
     io::write_all(STDOUT_FILENO, b"-");
-}
-
-fn put(n: u64) {
-    io::print_decimal(STDOUT_FILENO, n);
-}
-
-fn tell_refused(number: u8, place: usize) {
-    io::write_all(STDOUT_FILENO, b"refused ");
-    put(number as u64);
-    blank();
-    put(place as u64);
-    end_line();
 }
 
 // Prints the number at `at`, and says whether it is the 0 that ends a clause.
@@ -37,12 +17,12 @@ fn show_number(plain: &[i32], at: usize) -> bool
 {
     match signed::number_at(plain, at) {
         Signed::Plus(n) => {
-            put(n as u64);
+            tell::put(n as u64);
             n == 0
         }
         Signed::Minus(n) => {
             minus();
-            put(n as u64);
+            tell::put(n as u64);
             false
         }
     }
@@ -57,13 +37,13 @@ fn show_plain(space: &[i32], count: usize) {
             return;
         }
         if !starts {
-            blank();
+            tell::blank();
         }
         // a clause's group may be 0, and so may the header's groups
         let zero = show_number(space, k);
         let ends = k == 1 || (1 < k && !starts && zero);
         if ends {
-            end_line();
+            tell::end_line();
         }
         starts = ends;
         k += 1;
@@ -73,7 +53,7 @@ fn show_plain(space: &[i32], count: usize) {
 fn show_answer(answer: Written, space: &[i32]) {
     match answer {
         Written::Count { count } => show_plain(space, count),
-        Written::Refused { number, place } => tell_refused(number, place),
+        Written::Refused { number, place } => tell::refused(number, place),
     }
 }
 

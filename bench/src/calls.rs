@@ -1,4 +1,4 @@
-//! The other calls on books that double: asking, and checking, reading and writing.
+//! The other calls on books and texts that double: asking; checking, reading and writing; text to book and book to text.
 
 use crate::books::chain;
 use crate::clock;
@@ -74,6 +74,75 @@ pub fn bytes_calls() {
             *last = Some(spent);
         }
         table.row(&row);
+    }
+    table.print();
+}
+
+/// A text turned into a book by the engine and by the twin: seconds of each.
+fn from_text(text: &[u8]) -> [f64; 2] {
+    let mut lent = Lent::new();
+    let (book, engine) = clock::smallest(&mut lent, Lent::clear, |lent| badolkhup::from_text(text, &mut lent.out));
+    let (again, twin) = clock::smallest(&mut lent, Lent::clear, |lent| twin::calls::from_text(text, &mut lent.out));
+    assert!(book.is_ok_and(|length| again == Ok(vec![length as u64])));
+    [engine, twin]
+}
+
+pub fn text_calls() {
+    println!("Text to book and book to text, clauses with 8 body variables; microseconds, growth for each doubling.\n");
+    let mut table =
+        Table::new(&["Clauses", "Bytes of text", "from_text", "growth", "twin", "twin ÷ engine", "to_text", "growth"]);
+    let mut last = [None; 2];
+    for size in [256, 512, 1024, 2048] {
+        let bytes = wide(size).bytes();
+        let text = badolkhup::text_of(&bytes).expect("a book");
+        let [from, twin] = from_text(&text);
+        let mut space = vec![0; text.len()];
+        let (again, to) = clock::smallest(&mut space, |_| (), |space| badolkhup::to_text(&bytes, space));
+        assert_eq!(again, Ok(text.len()));
+        table.row(&[
+            thousands(size as u64),
+            thousands(text.len() as u64),
+            short(from * 1e6),
+            ratio(Some(from), last[0]),
+            short(twin * 1e6),
+            ratio(Some(twin), Some(from)),
+            short(to * 1e6),
+            ratio(Some(to), last[1]),
+        ]);
+        last = [Some(from), Some(to)];
+    }
+    table.print();
+    long_texts("One clause that repeats 32 body literals in falling order", "Literals", one_line);
+    long_texts("Comments and blank lines", "Lines", comments);
+}
+
+/// A text of one clause with so many literals: 32 body variables falling, over and over.
+fn one_line(literals: usize) -> Vec<u8> {
+    let body: String = (0..literals).map(|k| format!(" -{}", 1024 - k % 32)).collect();
+    format!("p gcnf 1024 1 1\n{{1}}{body} 0\n").into_bytes()
+}
+
+/// A text of so many lines, a comment and a blank line in turn.
+fn comments(lines: usize) -> Vec<u8> {
+    format!("p gcnf 1 0 0\n{}", "c a comment of some length\n \t\n".repeat(lines / 2)).into_bytes()
+}
+
+fn long_texts(about: &str, unit: &str, text: fn(usize) -> Vec<u8>) {
+    println!("{about}, turned into a book; microseconds, growth for each doubling.\n");
+    let mut table = Table::new(&[unit, "Bytes of text", "from_text", "growth", "twin", "twin ÷ engine"]);
+    let mut last = None;
+    for size in [4_096, 8_192, 16_384, 32_768, 65_536] {
+        let text = text(size);
+        let [from, twin] = from_text(&text);
+        table.row(&[
+            thousands(size as u64),
+            thousands(text.len() as u64),
+            short(from * 1e6),
+            ratio(Some(from), last),
+            short(twin * 1e6),
+            ratio(Some(twin), Some(from)),
+        ]);
+        last = Some(from);
     }
     table.print();
 }

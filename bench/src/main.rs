@@ -40,6 +40,7 @@ fn times(families: &[Family]) -> bool {
     let right = listings::run(families, &folder());
     calls::asking();
     calls::bytes_calls();
+    calls::text_calls();
     right
 }
 

@@ -1,5 +1,6 @@
 // Runs the cases that stand on standard input through ask, and prints a line for each. tests/make_ask_cases.py makes them, with the lines that
 // they must give, from an implementation of its own; it says there how a case is laid out.
+#![tactic(auto)]
 use ask::Asked;
 use libc::STDOUT_FILENO;
 

@@ -1,5 +1,6 @@
 // Runs the cases that stand on standard input through check, read and write, and prints a line for each. tests/make_cases.py makes them, with
 // the lines that they must give, from an implementation of its own; it says there how a case is laid out.
+#![tactic(auto)]
 ghost use Rattle.std.specs.Prelude.{◌<◌, length};
 
 use answer::Written;

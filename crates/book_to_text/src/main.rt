@@ -1,4 +1,5 @@
 // Reads a rule book from standard input and writes it as group CNF text. A book that is refused gives one line: refused, the number, the place.
+#![tactic(auto)]
 use libc::STDIN_FILENO;
 
 // The longest text of a book has 186,242 bytes (docs/INTEGRATING.md), so that the space is never too small.

@@ -1,5 +1,6 @@
 // What the programs that run stored cases share: the parts of a case as they stand on standard input, what stands in lent space before a call,
 // a checksum of it after the call, and the parts of a line.
+#![tactic(auto)]
 ghost use Rattle.std.specs.Prelude.{◌≡◌, ◌<◌, length};
 ghost use Rattle.case_io.specs.Fill.{start_at, filled, word_at, words, one_more, sum_from};
 

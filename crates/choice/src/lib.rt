@@ -1,4 +1,6 @@
 // A choice of groups in a word of 32 bits: how wide it is, is known here. Groups are counted from 0: group g + 1 of the book adds 2 ^ g.
+#![tactic(auto)]
+
 ghost use Rattle.std.specs.Prelude.{◌≡◌, ◌≢◌, not, suc, ◌-◌, ◌*◌, ◌/◌, ◌^◌, ◌≤◌, ◌<◌, eqb, ltb};
 ghost use Rattle.meaning.specs.Choice.{digit};
 ghost use Rattle.choice.specs.Groups.{width, Highest};

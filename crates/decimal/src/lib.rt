@@ -1,4 +1,6 @@
 // Numbers in decimal digits, and bytes, written into lent bytes. A call that writes gives the place after what it wrote.
+#![tactic(auto)]
+
 ghost use Rattle.std.specs.Prelude.{◌≡◌, [], ◌∷◌, suc, ◌+◌, ◌≤◌, ◌<◌, length};
 ghost use Rattle.answer.specs.Space.{Wrote};
 ghost use Rattle.decimal.specs.Digits.{number, after};

@@ -1,1 +1,3 @@
 // Demands 2 and 3, stated and proved over every accepted book; there is nothing to run.
+
+#![tactic(auto)]

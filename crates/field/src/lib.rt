@@ -1,4 +1,6 @@
 // Numbers of two bytes, the high byte first, and tagged fields made of them. Nothing here is about rule books.
+#![tactic(auto)]
+
 ghost use Rattle.std.specs.Prelude.{◌≡◌, [], ◌∷◌, ◌+◌, ◌<◌, ◌≤◌, length};
 ghost use Rattle.answer.specs.Space.{Wrote};
 ghost use Rattle.field.specs.Words.{word_at, words, word_bytes, within, rising};

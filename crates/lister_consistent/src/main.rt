@@ -1,4 +1,5 @@
 // The listing program on a consistent book (stdin).
+#![tactic(auto)]
 fn main() {
     listing_run::run();
 }

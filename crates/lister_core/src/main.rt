@@ -1,4 +1,5 @@
 // The listing program on an inconsistent core (stdin).
+#![tactic(auto)]
 fn main() {
     listing_run::run();
 }

@@ -1,4 +1,5 @@
 // The run of the listing program, which several programs share.
+#![tactic(auto)]
 use admit::WORK_WORDS;
 use libc::STDIN_FILENO;
 

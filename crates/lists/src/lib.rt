@@ -1,6 +1,7 @@
 // Lists of clauses in the working space. A clause is due, or it waits at a group or a variable; and variables from which no goal can be reached may be left
 // aside. What lies in the lists decides no answer, and nothing is promised of it: only that levels, places and the words from 8,192 on stay as they are. So it
 // is tested before it is used.
+#![tactic(auto)]
 ghost use Rattle.std.specs.Prelude.{◌≡◌, true, ◌+◌, ◌≤◌, ◌<◌};
 ghost use Rattle.field.specs.Words.{words, within};
 ghost use Rattle.book.specs.Bytes.{most_groups};

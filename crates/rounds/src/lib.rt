@@ -1,1 +1,3 @@
 // The round rule: definitions and laws only.
+
+#![tactic(auto)]

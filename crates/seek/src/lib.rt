@@ -2,6 +2,7 @@
 // still free, first in, then out, and lets the records decide what follows. Each decided group keeps the trials that it rests on, so a branch that fails names the
 // trials that made it fail, and the search goes back to the last of them. Every choice is tested against all records before it is answered. The records that may
 // still be open stand in front of a list, so that a branch looks only at those that its first part left open.
+#![tactic(auto)]
 ghost use Rattle.std.specs.Prelude.{◌≡◌, ℕ, suc, ◌+◌, ◌^◌, ◌≤◌, ◌<◌, length};
 ghost use Rattle.meaning.specs.Choice.{Inside};
 ghost use Rattle.rounds.specs.Rounds.{seed};

@@ -1,5 +1,6 @@
 // Reads a rule book from standard input and shows it in plain form: its variables and groups on the first line, then a clause a line.
 // A book that is refused gives one line: refused, the number, the place.
+#![tactic(auto)]
 ghost use Rattle.std.specs.Prelude.{◌<◌, length};
 
 use answer::Written;

@@ -1,4 +1,6 @@
 // The only functions of the calls that compute with signed numbers: whoever calls them works on numbers without a sign.
+#![tactic(auto)]
+
 ghost use Rattle.std.specs.Prelude.{◌≡◌, ◌<◌, ◌%◌, pos, neg_ℤ, nat_abs, length, get_or, set};
 ghost use Rattle.signed.specs.Signed.{signed_of, sign_of};
 

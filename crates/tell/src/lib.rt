@@ -1,4 +1,5 @@
 // What programs print of an answer: what was written, or the refusal. And whether a text is longer than programs take.
+#![tactic(auto)]
 ghost use Rattle.std.specs.Prelude.{◌≤◌, length};
 
 use answer::Written;

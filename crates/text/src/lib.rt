@@ -1,1 +1,3 @@
 // Group CNF text: definitions and laws, no code.
+
+#![tactic(auto)]

@@ -1,4 +1,5 @@
 // Reads group CNF text from standard input and prints the listing of its book, as lister does. A text that is refused gives one line: refused, the number, the line.
+#![tactic(auto)]
 use answer::Written;
 use libc::STDIN_FILENO;
 

@@ -1,4 +1,5 @@
 // Reads group CNF text from standard input and writes its book. A text that is refused gives one line: refused, the number, the line.
+#![tactic(auto)]
 use libc::STDIN_FILENO;
 
 fn convert(text: &[u8], book: &mut [u8]) {

@@ -1,0 +1,18 @@
+-- `field::word_at` meets its contract: a byte is below 256, so nothing wraps.
+-- Assumes nothing.
+use Prim.Native.Nat.{◌+◌}
+use native.Mathlib.Omega.{arith}
+use Rattle.field.proofs.word_at.Goals as goal
+
+pub overflow_cast-result : goal.overflow_cast-result
+overflow_cast-result c = omega (arith, c.type_inv.s c.args.at)
+
+pub overflow_mul-result : goal.overflow_mul-result
+overflow_mul-result c = omega (arith, c.type_inv.s c.args.at)
+
+pub overflow_cast-result-2 : goal.overflow_cast-result-2
+overflow_cast-result-2 c = omega (arith, c.type_inv.s (c.args.at + 1))
+
+pub overflow_add-result-2 : goal.overflow_add-result-2
+overflow_add-result-2 c = omega
+    (arith, c.type_inv.s c.args.at, c.type_inv.s (c.args.at + 1))

@@ -1,5 +1,6 @@
 // The reader of rule books: whether some bytes are one, and its clauses one after the other.
 #![tactic(auto)]
+
 ghost use Rattle.std.specs.Prelude.{◌≡◌, [], ◌∷◌, ◌+◌, ◌-◌, ◌<◌, ◌≤◌, length, drop};
 ghost use Rattle.answer.specs.Answer.{answered, and_then, first};
 ghost use Rattle.field.specs.Field.{len, size};

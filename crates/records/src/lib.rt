@@ -1,5 +1,6 @@
 // Records in a space of 32-bit words. The layout of a record is known here only: its kind (1 explanation, 2 repair), then its set.
 #![tactic(auto)]
+
 ghost use Rattle.std.specs.Prelude.{◌≡◌, ◌*◌, ◌≤◌, ◌<◌, length};
 ghost use Rattle.choice.specs.Groups.{width};
 ghost use Rattle.rounds.specs.Records.{allows, allowed};

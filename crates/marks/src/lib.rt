@@ -1,6 +1,7 @@
 // Marks of variables: what one clause adds to them, what all clauses add, and the lowest goal that they break. A mark is 1 in a word of 16 bits, one for
 // each variable; a choice is a number: group g adds 2 ^ (g - 1).
 #![tactic(auto)]
+
 ghost use Rattle.std.specs.Prelude.{◌≡◌, true, ◌+◌, ◌≤◌, length};
 ghost use Rattle.field.specs.Words.{words, within};
 ghost use Rattle.meaning.specs.Book.{clause_from};

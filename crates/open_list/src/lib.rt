@@ -2,6 +2,7 @@
 // Words 0 to 31: for each group, how many of the records may still be open where the groups above it are as in the last seed; word 32: how many records are
 // listed; then their numbers. No answer rests on the list: it is where a search looks first. But it loses no record.
 #![tactic(auto)]
+
 ghost use Rattle.std.specs.Prelude.{◌≡◌, ℕ, ◌+◌, ◌-◌, ◌≤◌, ◌<◌, length, get_or};
 ghost use Rattle.choice.specs.Groups.{width};
 ghost use Rattle.records.specs.Words.{room};

@@ -1,6 +1,7 @@
 // What one record decides: a record all of whose groups but one are decided against it decides the last one, and one all of whose groups are rules the path out.
 // Each decided group keeps the trials that it rests on, so that a record that rules the path out names the trials that made it.
 #![tactic(auto)]
+
 ghost use Rattle.std.specs.Prelude.{◌≡◌, ◌^◌, ◌≤◌, ◌<◌, length};
 ghost use Rattle.choice.specs.Groups.{width};
 ghost use Rattle.records.specs.Words.{room, records_of};

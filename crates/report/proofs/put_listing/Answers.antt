@@ -16,7 +16,7 @@ put_records-last-requires c = let u = c.put_header-first.ensures in
 pub put_last-requires : goal.put_last-requires
 put_last-requires c = let u = c.put_header-first.ensures in
     let v = c.put_records-last.ensures in
-    omega (arith, c.requires.1, u.place, wrote_length _ _ _ _ _ u, v.1, wrote_length _ _ _ _ _ v.0, line_length groups_word (after c.args.groups), number_length 4 c.args.groups (omega (arith, c.ranges.groups)))
+    omega (arith, c.requires.1, u.place, wrote_length _ _ _ _ _ u, v.upper_bound, wrote_length _ _ _ _ _ v.wrote, line_length groups_word (after c.args.groups), number_length 4 c.args.groups (omega (arith, c.ranges.groups)))
 
 pub returns : goal.returns
-returns c = listing_wrote _ _ _ _ _ _ _ _ _ _ _ _ c.put_header-first.ensures c.put_records-last.ensures.0 c.put_last.ensures
+returns c = listing_wrote _ _ _ _ _ _ _ _ _ _ _ _ c.put_header-first.ensures c.put_records-last.ensures.wrote c.put_last.ensures

@@ -21,4 +21,7 @@ pub returns : goal.returns
 returns c = let u = c.put_kind-word.ensures in
     let v = c.put_set-end.ensures in
     let w = c.put_byte.ensures in
-    (record_wrote _ _ _ _ _ _ _ _ _ _ u v w, omega (arith, u.place, v.place, w.place, kind_length c.args.kind, set_length c.args.set (omega (arith, c.ranges.set))))
+    record {
+      wrote = record_wrote _ _ _ _ _ _ _ _ _ _ u v w;
+      upper_bound = omega (arith, u.place, v.place, w.place, kind_length c.args.kind, set_length c.args.set (omega (arith, c.ranges.set)));
+    }

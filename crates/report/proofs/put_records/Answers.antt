@@ -27,7 +27,7 @@ loop-k-smaller c = omega (arith, c.loop-k-test.true)
 
 pub loop-k-preserved : goal.loop-k-preserved
 loop-k-preserved c = let l = c.loop-k in
-    (wrote_as _ _ _ _ _ _ (lines_more _ l.k _ _ c.kind_at.ensures c.set_at.ensures) (wrote_append _ _ _ _ _ _ _ _ l.invariant.0 c.put_record-i.ensures.0), omega (arith, c.loop-k-test.true), omega (arith, l.invariant.2, c.put_record-i.ensures.1))
+    (wrote_as _ _ _ _ _ _ (lines_more _ l.k _ _ c.kind_at.ensures c.set_at.ensures) (wrote_append _ _ _ _ _ _ _ _ l.invariant.0 c.put_record-i.ensures.wrote), omega (arith, c.loop-k-test.true), omega (arith, l.invariant.2, c.put_record-i.ensures.upper_bound))
 
 pub shape_of-out : goal.shape_of-out
 shape_of-out c = wrote_length _ _ _ _ _ c.loop-k.invariant.0
@@ -35,4 +35,7 @@ shape_of-out c = wrote_length _ _ _ _ _ c.loop-k.invariant.0
 pub returns : goal.returns
 returns c = let l = c.loop-k in
     let e : l.k ≡ c.args.count = omega (arith, l.invariant.1, c.loop-k-test.false) in
-    (wrote_as _ _ _ _ _ _ (ap (λ k. record_lines (records_of c.args.records.now k)) e) l.invariant.0, omega (arith, l.invariant.2, e))
+    record {
+      wrote = wrote_as _ _ _ _ _ _ (ap (λ k. record_lines (records_of c.args.records.now k)) e) l.invariant.0;
+      upper_bound = omega (arith, l.invariant.2, e);
+    }

@@ -1,15 +1,99 @@
-// What the programs that run stored cases share: the parts of a case as they stand on standard input, what stands in lent space before a call,
+// What the programs that run stored cases share: the parts of a case as they stand in the input, what stands in lent space before a call,
 // a checksum of it after the call, and the parts of a line.
 #![tactic(auto)]
 
-ghost use Rattle.std.specs.Prelude.{◌≡◌, ◌<◌, length};
+ghost use Rattle.std.specs.Prelude.{◌≡◌, ◌<◌, [], ◌∷◌, ◌++◌, length, IfOk, OnOk, codes};
+ghost use Rattle.std.specs.Fmt.{decimal};
+ghost use Rattle.std.specs.Io.KnownBytes.{Appends};
 ghost use Rattle.case_io.specs.Fill.{start_at, filled, word_at, words, one_more, sum_from};
+
+use input::read_full;
+use std::io::{self, Read, Write};
+
+// After an error of a function that prints, a part of what it was to print may be printed.
+pub fn end_line<W: Write>(out: &mut W) -> io::Result<()>
+    ensures { OnOk result (Appends (W.contents out.old) (W.contents out.new) (10 ∷ [])) }
+{
+    out.write_all(b"\n")
+}
+
+// A blank, and a number.
+pub fn put<W: Write>(out: &mut W, n: u64) -> io::Result<()>
+    ensures { OnOk result (Appends (W.contents out.old) (W.contents out.new) (32 ∷ decimal n)) }
+{
+    write!(out, " {n}")
+}
+
+fn text_refused<W: Write>(out: &mut W) -> io::Result<()>
+    ensures { OnOk result (Appends (W.contents out.old) (W.contents out.new) (codes "refused")) }
+{
+    out.write_all(b"refused")
+}
+
+pub fn tell_refused<W: Write>(out: &mut W, number: u8, place: usize) -> io::Result<()>
+    ensures { OnOk result (Appends (W.contents out.old) (W.contents out.new) (codes "refused" ++ 32 ∷ decimal number ++ 32 ∷ decimal place)) }
+{
+    text_refused(out)?;
+    put(out, number as u64)?;
+    put(out, place as u64)
+}
 
 fn wide(b: u8) -> u64
     ensures value { result ≡ b }
     ensures upper_bound { result < 256 }
 {
     b as u64
+}
+
+// After an error of a function that reads, what was read by then is gone from the input.
+// Which call is next; 0 at the end.
+pub fn next_call<R: Read>(input: &mut R) -> io::Result<u8>
+    ensures { IfOk result (λ b. b < 256) }
+{
+    let mut b = [0u8; 1];
+    read_full(input, &mut b)?;
+    Ok(wide(b[0]) as u8)
+}
+
+// The next number of two bytes.
+pub fn next_two<R: Read>(input: &mut R) -> io::Result<usize>
+    ensures { IfOk result (λ n. n < 65536) }
+{
+    let mut b = [0u8; 2];
+    read_full(input, &mut b)?;
+    Ok((wide(b[0]) * 256 + wide(b[1])) as usize)
+}
+
+// The next number of four bytes; 0 at the end.
+pub fn next_four<R: Read>(input: &mut R) -> io::Result<u32>
+    ensures { IfOk result (λ n. n < 4294967296) }
+{
+    let mut b = [0u8; 4];
+    read_full(input, &mut b)?;
+    let n = ((wide(b[0]) * 256 + wide(b[1])) * 256 + wide(b[2])) * 256 + wide(b[3]);
+    Ok((n % 4294967296) as u32)
+}
+
+// The next number of eight bytes.
+pub fn next_eight<R: Read>(input: &mut R) -> io::Result<usize> {
+    let high = next_four(input)? as usize;
+    let low = next_four(input)? as usize;
+    Ok(high * 4294967296 + low)
+}
+
+fn next_records<R: Read>(input: &mut R, records: &mut [u32]) -> io::Result<()> {
+    for record in records {
+        *record = next_four(input)?;
+    }
+    Ok(())
+}
+
+// The next numbers of four bytes into the front of a space; none where it is too short for them. After an error some of them may stand there.
+pub fn take_records<R: Read>(input: &mut R, given: usize, records: &mut [u32]) -> io::Result<()> {
+    if records.len() < given {
+        return Ok(());
+    }
+    next_records(input, &mut records[..given])
 }
 
 // Copies a block of n bytes that ends at `at` onwards to `end`.
@@ -26,6 +110,35 @@ fn repeat_bytes(n: usize, at: usize, end: usize, buffer: &mut [u8]) {
         buffer[k] = b;
         k += 1;
     }
+}
+
+// One run into a buffer from `at` on, a block and its copies: the place after it.
+fn run_of_bytes<R: Read>(input: &mut R, at: usize, buffer: &mut [u8]) -> io::Result<usize> {
+    let total = next_four(input)? as usize;
+    let n = next_two(input)?;
+    if 1000000 < at {
+        return Ok(at);
+    }
+    let end = at + n;
+    if buffer.len() < end {
+        return Ok(end);
+    }
+    read_full(input, &mut buffer[at..end])?;
+    let last = at + total;
+    repeat_bytes(n, end, last, buffer);
+    Ok(last)
+}
+
+// The next n bytes, which stand as runs, into a buffer. After an error some of them may stand there.
+pub fn take_bytes<R: Read>(input: &mut R, n: usize, buffer: &mut [u8]) -> io::Result<()> {
+    let mut at: usize = 0;
+    for _ in 0..100000u32 {
+        if n <= at {
+            return Ok(());
+        }
+        at = run_of_bytes(input, at, buffer)?;
+    }
+    Ok(())
 }
 
 // What stands in lent space before a call.

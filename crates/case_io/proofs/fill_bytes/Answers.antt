@@ -1,5 +1,4 @@
 -- What `case_io::fill_bytes` leaves open, from the laws.
-use Prim.Native.Nat.{◌-◌}
 use Rattle.case_io.specs.Fill.{start_at, filled}
 use Rattle.case_io.proofs.Fill.{filling_next, filling_end, filled_next}
 use borrow.Author.Rules.{rules}

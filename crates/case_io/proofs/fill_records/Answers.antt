@@ -1,5 +1,4 @@
 -- What `case_io::fill_records` leaves open, from the laws.
-use Prim.Native.Nat.{◌-◌}
 use Rattle.case_io.specs.Fill.{word_at, words}
 use Rattle.case_io.proofs.Fill.{filling_next, filling_end, words_next}
 use borrow.Author.Rules.{rules}

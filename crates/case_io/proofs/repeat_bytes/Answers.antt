@@ -1,5 +1,4 @@
 -- What `case_io::repeat_bytes` leaves open, from the laws.
-use Prim.Native.Nat.{◌-◌}
 use lib.ListN.{length-set}
 use Rattle.case_io.proofs.repeat_bytes.Goals as goal
 

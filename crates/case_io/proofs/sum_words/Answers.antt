@@ -1,5 +1,4 @@
 -- What `case_io::sum_words` leaves open, from the laws.
-use Prim.Native.Nat.{◌-◌}
 use Rattle.case_io.proofs.Fill.{summing_next, summing_end}
 use borrow.Author.Rules.{rules}
 use Rattle.case_io.proofs.sum_words.Goals as goal

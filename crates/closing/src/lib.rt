@@ -1,6 +1,7 @@
 // What the records decide, until none decides any more, looking at those that may still be open. These stand in front of a list; behind them are those that are
 // settled, and records that are not listed are looked at as well. Which records are looked at, and when, is a matter of speed alone: each decision is right.
 #![tactic(auto)]
+
 ghost use Rattle.std.specs.Prelude.{◌≡◌, true, ◌+◌, ◌-◌, ◌≤◌, ◌<◌, min, length};
 ghost use Rattle.choice.specs.Groups.{width};
 ghost use Rattle.records.specs.Words.{room, records_of};

@@ -3,6 +3,7 @@
 // (`is_closed`), in which variables that were left aside are taken for granted: levels so low that every clause is met and no goal is broken show that none
 // is, whether they are too low or not. A level is a word of 16 bits, one for each variable; choices are numbers: group g adds 2 ^ (g - 1).
 #![tactic(auto)]
+
 ghost use Rattle.std.specs.Prelude.{◌≡◌, true, [], ◌∷◌, ◌+◌, ◌-◌, ◌≤◌, min, length, leb};
 ghost use Rattle.field.specs.Words.{words, within};
 ghost use Rattle.meaning.specs.Book.{clause_from};

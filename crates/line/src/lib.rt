@@ -1,5 +1,6 @@
 // Where the lines of a text and the tokens of a line lie, the numbers that tokens spell, and what a line begins as.
 #![tactic(auto)]
+
 ghost use Rattle.std.specs.Prelude.{◌≡◌, ◌∷◌, ◌≤◌, ◌<◌, length};
 ghost use Rattle.text.specs.Lines.{ends, separates, tokens, same};
 ghost use Rattle.text.specs.Forms.{none, heading_line, counts_line};

@@ -3,6 +3,7 @@
 // trials that made it fail, and the search goes back to the last of them. Every choice is tested against all records before it is answered. The records that may
 // still be open stand in front of a list, so that a branch looks only at those that its first part left open.
 #![tactic(auto)]
+
 ghost use Rattle.std.specs.Prelude.{◌≡◌, ℕ, suc, ◌+◌, ◌^◌, ◌≤◌, ◌<◌, length};
 ghost use Rattle.meaning.specs.Choice.{Inside};
 ghost use Rattle.rounds.specs.Rounds.{seed};

@@ -7,17 +7,16 @@ use Rattle.book.proofs.Walk.{Begun, begun, Turn, walk_on, well_formed}
 use Rattle.meaning.proofs.Marks.{unmarked_le}
 use Rattle.marks.proofs.Walks.{sweeping_end, sweeping_next, turn_ready}
 use Rattle.marks.proofs.sweep.Goals as goal
-use Rattle.marks.proofs.sweep.Goals.{After-slice_known-1, In-Clause-2}
+use Rattle.marks.proofs.sweep.Goals.{After-slice_known-1, In-Clause}
 
 -- the book is accepted, so the walk can begin
 start : (c : After-slice_known-1) → Begun c.args.book.now
 start c = begun _ c.requires.0
 
 -- at a clause
-turn : (c : In-Clause-2)
+turn : (c : In-Clause)
     → let b = book_of c.args.book.now in
-    let d = c.groups-1.given.0 in
-    Turn b.variables b.groups c.loop-groups.rest.now c.loop-groups.invariant.left d.0 d.1.0 d.1.1.0 d.1.1.1.0
+    Turn b.variables b.groups c.loop-groups.rest.now c.loop-groups.invariant.left c.in-Clause.groups c.in-Clause.head c.in-Clause.body c.in-Clause.size
 turn c =
     walk_on _ _ _ _ _ _ _ _ c.loop-groups.invariant.walk (sym c.front_of.ensures ∙ c.in-Clause.is)
 
@@ -40,28 +39,28 @@ pub returns-in-End : goal.returns-in-End
 returns-in-End c = sweeping_end _ _ _ _ _ _ _ _ c.loop-groups.invariant (sym c.front_of.ensures ∙ c.in-End.is)
 
 pub overflow_sub-last : goal.overflow_sub-last
-overflow_sub-last c = omega (arith, (turn (goal.at.overflow_sub-last c).In-Clause-2).before)
+overflow_sub-last c = omega (arith, (turn c).before)
 
 pub slice_bounds-mark_clause-count : goal.slice_bounds-mark_clause-count
-slice_bounds-mark_clause-count c = omega (arith, (turn (goal.at.slice_bounds-mark_clause-count c).In-Clause-2).before)
+slice_bounds-mark_clause-count c = omega (arith, (turn c).before)
 
 pub slice_bounds-mark_clause-start : goal.slice_bounds-mark_clause-start
-slice_bounds-mark_clause-start c = omega (arith, (turn (goal.at.slice_bounds-mark_clause-start c).In-Clause-2).before)
+slice_bounds-mark_clause-start c = omega (arith, (turn c).before)
 
 pub slice_bounds-mark_clause-end : goal.slice_bounds-mark_clause-end
-slice_bounds-mark_clause-end c = omega (arith, (turn (goal.at.slice_bounds-mark_clause-end c).In-Clause-2).before, (turn (goal.at.slice_bounds-mark_clause-end c).In-Clause-2).least, (turn (goal.at.slice_bounds-mark_clause-end c).In-Clause-2).fits)
+slice_bounds-mark_clause-end c = omega (arith, (turn c).before, (turn c).least, (turn c).fits)
 
 pub slice_bounds-mark_clause-count-in-Clause : goal.slice_bounds-mark_clause-count-in-Clause
-slice_bounds-mark_clause-count-in-Clause c = (turn (goal.at.slice_bounds-mark_clause-count-in-Clause c).In-Clause-2).least
+slice_bounds-mark_clause-count-in-Clause c = (turn (goal.at.slice_bounds-mark_clause-count-in-Clause c).In-Clause).least
 
 pub slice_bounds-mark_clause-start-in-Clause : goal.slice_bounds-mark_clause-start-in-Clause
-slice_bounds-mark_clause-start-in-Clause c = (turn (goal.at.slice_bounds-mark_clause-start-in-Clause c).In-Clause-2).least
+slice_bounds-mark_clause-start-in-Clause c = (turn (goal.at.slice_bounds-mark_clause-start-in-Clause c).In-Clause).least
 
 pub slice_bounds-mark_clause-end-in-Clause : goal.slice_bounds-mark_clause-end-in-Clause
-slice_bounds-mark_clause-end-in-Clause c = (turn (goal.at.slice_bounds-mark_clause-end-in-Clause c).In-Clause-2).fits
+slice_bounds-mark_clause-end-in-Clause c = (turn (goal.at.slice_bounds-mark_clause-end-in-Clause c).In-Clause).fits
 
 pub mark_clause-n-requires : goal.mark_clause-n-requires
-mark_clause-n-requires c = let k = turn_ready _ _ _ _ _ _ _ _ (turn (goal.at.mark_clause-n-requires c).In-Clause-2) 32 (well_formed _ c.requires.0).groups in
+mark_clause-n-requires c = let k = turn_ready _ _ _ _ _ _ _ _ (turn (goal.at.mark_clause-n-requires c).In-Clause) 32 (well_formed _ c.requires.0).groups in
     let long = c.loop-groups.invariant.long ∙ c.requires.1 in
     (k.groups, omega (arith, k.head, long), rw long k.body)
 
@@ -69,14 +68,14 @@ pub overflow_add-n : goal.overflow_add-n
 overflow_add-n c = omega (arith, c.loop-groups.invariant.count, c.mark_clause-n.ensures.1, unmarked_le c.args.marks.now, c.requires.1, (well_formed _ c.requires.0).variables)
 
 pub slice_bounds-rest-count-in-Clause : goal.slice_bounds-rest-count-in-Clause
-slice_bounds-rest-count-in-Clause c = omega (arith, (turn (goal.at.slice_bounds-rest-count-in-Clause c).In-Clause-2).fits)
+slice_bounds-rest-count-in-Clause c = omega (arith, (turn (goal.at.slice_bounds-rest-count-in-Clause c).In-Clause).fits)
 
 pub slice_bounds-rest-start-in-Clause : goal.slice_bounds-rest-start-in-Clause
-slice_bounds-rest-start-in-Clause c = omega (arith, (turn (goal.at.slice_bounds-rest-start-in-Clause c).In-Clause-2).fits)
+slice_bounds-rest-start-in-Clause c = omega (arith, (turn (goal.at.slice_bounds-rest-start-in-Clause c).In-Clause).fits)
 
 pub loop-groups-smaller : goal.loop-groups-smaller
-loop-groups-smaller c = let t = turn (goal.at.loop-groups-smaller c).In-Clause-2 in
+loop-groups-smaller c = let t = turn (goal.at.loop-groups-smaller c).In-Clause in
     part_shorter c.loop-groups.rest.now _ (omega (arith, t.before, t.least)) t.fits
 
 pub loop-groups-preserved : goal.loop-groups-preserved
-loop-groups-preserved c = sweeping_next _ _ _ _ _ _ _ _ _ _ _ _ c.loop-groups.invariant (turn (goal.at.loop-groups-preserved c).In-Clause-2) _ _ c.mark_clause-n.ensures.0 c.mark_clause-n.ensures.1
+loop-groups-preserved c = sweeping_next _ _ _ _ _ _ _ _ _ _ _ _ c.loop-groups.invariant (turn (goal.at.loop-groups-preserved c).In-Clause) _ _ c.mark_clause-n.ensures.0 c.mark_clause-n.ensures.1

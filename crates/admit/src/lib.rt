@@ -1,5 +1,6 @@
 // What stands before every call on a book and a choice: the book's refusals, and 10; and the working space, cleared.
 #![tactic(auto)]
+
 ghost use Rattle.std.specs.Prelude.{◌≡◌, ◌≤◌, length, replicate};
 ghost use Rattle.answer.specs.Answer.{answered, and_then};
 ghost use Rattle.answer.specs.Space.{over};

@@ -1,5 +1,6 @@
 // Asking about a choice of groups: which variables it forces, and whether it is consistent.
 #![tactic(auto)]
+
 ghost use Rattle.std.specs.Prelude.{◌≡◌, ◌≤◌, length};
 ghost use Rattle.answer.specs.Space.{over};
 ghost use Rattle.meaning.specs.Forced.{forced_in, broken_in};

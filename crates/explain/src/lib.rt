@@ -1,6 +1,7 @@
 // Explaining a choice of groups: whether it is consistent, and else the smallest explanation within it. By insertion: the groups of the choice arrive
 // from the lowest on; the first whose arrival breaks consistency is kept, and only the groups below it are left for the next pass.
 #![tactic(auto)]
+
 ghost use Rattle.std.specs.Prelude.{◌≡◌, ◌-◌, ◌≤◌, ◌<◌, ◌^◌, length, drop};
 ghost use Rattle.answer.specs.Space.{over};
 ghost use Rattle.book.specs.Bytes.{most_groups};

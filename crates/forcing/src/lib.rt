@@ -1,5 +1,6 @@
 // The variables that a choice forces: the levels of the queue with the choice kept and no group in the pool, as marks, and sweeps to the end.
 #![tactic(auto)]
+
 ghost use Rattle.std.specs.Prelude.{◌≡◌, cond, ◌≤◌, length, leb};
 ghost use Rattle.meaning.specs.Forced.{forced_in};
 ghost use Rattle.book.specs.Walk.{book_of, IsBook};

@@ -2,6 +2,7 @@
 // aside. What lies in the lists decides no answer, and nothing is promised of it: only that levels, places and the words from 8,192 on stay as they are. So it
 // is tested before it is used.
 #![tactic(auto)]
+
 ghost use Rattle.std.specs.Prelude.{◌≡◌, true, ◌+◌, ◌≤◌, ◌<◌};
 ghost use Rattle.field.specs.Words.{words, within};
 ghost use Rattle.book.specs.Bytes.{most_groups};

@@ -2,6 +2,7 @@
 // any further. Clauses that are due have their turns, those of the lowest level first; where the level of a head falls, the clauses that wait at it become due.
 // A walk over the book confirms the level of the goals, and sweeps complete the levels where it does not.
 #![tactic(auto)]
+
 ghost use Rattle.std.specs.Prelude.{◌≡◌, true, ◌≤◌, ◌<◌, length, take};
 ghost use Rattle.field.specs.Words.{words, within};
 ghost use Rattle.meaning.specs.Book.{clause_from};

@@ -1,5 +1,6 @@
 // The text of a listing, written into lent bytes. A call gives the place after what it wrote.
 #![tactic(auto)]
+
 ghost use Rattle.std.specs.Prelude.{[], cond, ◌+◌, ◌*◌, ◌%◌, ◌≤◌, eqb, length};
 ghost use Rattle.answer.specs.Space.{Wrote};
 ghost use Rattle.decimal.specs.Digits.{after, line};

@@ -1,6 +1,7 @@
 // The table of a book's clauses in the working space: where each of them stands in the book, so that one can have its turn without a walk. It is laid before
 // the first turn, and the clauses begin in their lists then. By the table it is found which variables can be left aside: clauses with such a head have no turns.
 #![tactic(auto)]
+
 ghost use Rattle.std.specs.Prelude.{◌≡◌, true, ◌≤◌, ◌<◌, length};
 ghost use Rattle.field.specs.Words.{words, within};
 ghost use Rattle.book.specs.Bytes.{most_groups};

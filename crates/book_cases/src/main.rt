@@ -33,10 +33,8 @@ fn next_numbers<R: Read>(input: &mut R, numbers: &mut [i32]) -> io::Result<()> {
 }
 
 fn fill_numbers(out: &mut [i32]) {
-    let mut k: usize = 0;
-    while k < out.len() {
+    for k in 0..out.len() {
         signed::put_plus(case_io::before(k) as u16, out, k);
-        k += 1;
     }
 }
 
@@ -51,10 +49,8 @@ fn bits_at(s: &[i32], at: usize) -> u64
 
 fn sum_numbers(s: &[i32]) -> u64 {
     let mut sum: u64 = 1;
-    let mut k: usize = 0;
-    while k < s.len() {
+    for k in 0..s.len() {
         sum = case_io::added(sum, bits_at(s, k));
-        k += 1;
     }
     sum
 }
@@ -106,17 +102,14 @@ fn run_write<W: Write>(to: &mut W, plain: &[i32], out: &mut [u8]) -> io::Result<
 
 // From `at` to `end`, what stands n places before.
 fn repeat_numbers(n: usize, at: usize, end: usize, buffer: &mut [i32]) {
-    let mut k = at;
-    while k < end {
+    for k in at..end {
         if buffer.len() <= k {
             return;
         }
         if k < n {
             return;
         }
-        let b = buffer[k - n];
-        buffer[k] = b;
-        k += 1;
+        buffer[k] = buffer[k - n];
     }
 }
 

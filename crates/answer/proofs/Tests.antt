@@ -10,7 +10,7 @@ use Prim.Native.Nat.{ℕ, zero, suc}
 use mathlib.Core.Path.{◌≡◌, refl, sym, ◌∙◌}
 use mathlib.Core.Logic.{◌⊎◌, inl, inr}
 use mathlib.Core.List.{List, [], ◌∷◌}
-use mathlib.Core.Bool.{Bool, true, false, cond, ◌&&◌, true≢false, false≢true}
+use mathlib.Core.Bool.{Bool, true, false, ◌&&◌, true≢false, false≢true}
 use native.Mathlib.Omega.{arith}
 use Rattle.answer.specs.Answer.{Test, ◌⇒◌, first, ◌or_else◌}
 

@@ -6,7 +6,7 @@
 --   n or_else m       n, or m where n is 0
 --   unless n at a    refused n at; or a where n is 0
 -- Assumes nothing: these are definitions.
-use Rattle.std.specs.Prelude.{ℕ, zero, suc, List, [], ◌∷◌, Bool, true, false, cond}
+use Rattle.std.specs.Prelude.{ℕ, zero, suc, List, [], ◌∷◌, Bool, cond}
 
 pub data Answer (A : Type 0) : Type 0 where
   answered : A → Answer A

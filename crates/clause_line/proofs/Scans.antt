@@ -6,7 +6,7 @@
 --   scan_head, scan_body      t has a positive literal in front; a negative one
 --   scan_count, scan_rising   how many words were put in, at most; they rise
 -- Assumes nothing.
-use Prim.Native.Nat.{ℕ, suc, ◌+◌, ◌-◌, ◌≤◌}
+use Prim.Native.Nat.{ℕ, suc, ◌-◌, ◌≤◌}
 use mathlib.Core.Path.{◌≡◌, refl, sym, ap, ◌∙◌, subst}
 use mathlib.Core.List.{List, [], ◌∷◌, ◌++◌, append-nil, append_assoc}
 use mathlib.Core.Bool.{Bool, true, false, not, ◌&&◌, ◌||◌}

@@ -15,7 +15,7 @@
 --   body_from s l old       the words for the body, after a line that begins as s
 --   body_after l old        the words for the body, after line l
 -- Assumes nothing: these are definitions.
-use Rattle.std.specs.Prelude.{ℕ, zero, suc, ◌+◌, List, [], ◌∷◌, ◌++◌, Bool, not, ◌||◌, cond, ℤ, pos, negsuc, length, take, drop, ltb, eqb}
+use Rattle.std.specs.Prelude.{ℕ, zero, suc, List, [], ◌∷◌, ◌++◌, Bool, not, ◌||◌, cond, ℤ, pos, negsuc, length, take, drop, ltb, eqb}
 use Rattle.answer.specs.Answer.{Test, ◌⇒◌, first}
 use Rattle.answer.specs.Space.{over}
 use Rattle.field.specs.Words.{within}

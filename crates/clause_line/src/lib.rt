@@ -1,5 +1,6 @@
 // What a line after the `p` line adds: nothing, a clause, or the refusal.
 #![tactic(auto)]
+
 ghost use Rattle.std.specs.Prelude.{◌≡◌, true, ◌<◌, ◌≤◌, length, take};
 ghost use Rattle.answer.specs.Answer.{first};
 ghost use Rattle.answer.specs.Space.{over};

@@ -1,5 +1,6 @@
 // One round, and a listing to the end of the room: explanations and repairs of a book as records in lent words, which can be continued.
 #![tactic(auto)]
+
 ghost use Rattle.std.specs.Prelude.{◌≡◌, ◌-◌, ◌*◌, ◌^◌, ◌≤◌, ◌<◌, min, length};
 ghost use Rattle.answer.specs.Answer.{answered, and_then};
 ghost use Rattle.records.specs.Words.{record_words, room, fault};

@@ -1,5 +1,6 @@
 // What the listing program prints.
 #![tactic(auto)]
+
 ghost use Rattle.std.specs.Prelude.{◌≡◌, ◌+◌, ◌*◌, ◌≤◌, length};
 ghost use Rattle.answer.specs.Space.{Wrote};
 ghost use Rattle.records.specs.Words.{room};

@@ -7,20 +7,19 @@
 --   lowest_is             where the number is not 0, it is that of the lowest broken goal
 --   consistent_in, broken_more      the same of a book: consistent exactly if its lowest broken goal is 0; inconsistent in every larger choice
 -- Assumes nothing.
-use mathlib.Core.Path.{◌≡◌, refl, sym, ap, ◌∙◌, subst}
+use mathlib.Core.Path.{◌≡◌, refl, ap, ◌∙◌, subst}
 use mathlib.Core.Logic.{◌↔◌, ◌⊎◌, inl, inr, ◌≢◌}
-use mathlib.Core.Bool.{Bool, true, false, ◌&&◌, cond, true≢false}
+use mathlib.Core.Bool.{Bool, true, false, ◌&&◌, cond}
 use mathlib.Core.List.Memᴰ
-use mathlib.Core.List.{List, [], ◌∷◌, ◌++◌, Memᴰ}
-use Prim.Native.Nat.{ℕ, zero, suc, ◌+◌, ◌≤◌, ◌<◌}
+use mathlib.Core.List.{List, [], ◌∷◌, Memᴰ}
+use Prim.Native.Nat.{ℕ, zero, suc, ◌+◌, ◌<◌}
 use native.Mathlib.Omega.{arith}
 use borrow.Author.Tests.{eqb-true, eq-eqb}
 use lib.Dec.{eqb}
-use lib.ListN.{length}
 use Rattle.answer.proofs.Tests.{and_left, and_right, and_both, holds_or, clash}
 use Rattle.meaning.specs.Book.{Clause, Book}
 use Rattle.meaning.specs.Choice.{chosen, Inside}
-use Rattle.meaning.specs.Consistent.{every, in_force, Says, Satisfies, SatisfiesAll, Consistent}
+use Rattle.meaning.specs.Consistent.{every, in_force, Says, SatisfiesAll, Consistent}
 use Rattle.meaning.specs.Forced.{Closed, Least, marked, forced, broken, lowest, Broken, NoneBroken, Lowest, forced_in, broken_in}
 use Rattle.meaning.proofs.Choices.{chosen_more}
 use Rattle.meaning.proofs.Marks.{every_more, Heads}

@@ -8,7 +8,7 @@
 --   forced_one           marks, made in any order, under which every clause is quiet are the forced variables
 -- Assumes nothing.
 use mathlib.Core.Path.{◌≡◌, refl, sym, ap, ◌∙◌, subst}
-use mathlib.Core.Logic.{◌⊎◌, inl, inr, ◌≢◌}
+use mathlib.Core.Logic.{◌⊎◌, inl, inr}
 use mathlib.Core.Bool.{Bool, true, false, ◌&&◌, cond}
 use mathlib.Core.List.{List, [], ◌∷◌, Memᴰ}
 use Prim.Native.Nat.{ℕ, zero, suc, ◌≤◌, ◌<◌}
@@ -18,7 +18,7 @@ use borrow.Author.Tests.{eqb-true, eq-eqb}
 use lib.Dec.{eqb}
 use lib.ListN.{length, get_or, set, replicate, length-replicate}
 use lib.Seq.{get_or-set_same, get_or-set_other, set_out, ext_get_or}
-use Rattle.answer.proofs.Tests.{clash, holds_or}
+use Rattle.answer.proofs.Tests.{clash}
 use Rattle.meaning.specs.Book.{Clause, Book}
 use Rattle.meaning.specs.Choice.{chosen, Inside}
 use Rattle.meaning.specs.Consistent.{every, in_force}

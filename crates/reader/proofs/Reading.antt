@@ -4,13 +4,13 @@
 --   Read, read_one                              the contract of `read`; it determines its answer and the space
 -- Assumes nothing.
 use Prim.Native.Nat.{ℕ, ◌+◌, ◌≤◌, ◌<◌}
-use mathlib.Core.Path.{◌≡◌, refl, sym, ap, ◌∙◌}
-use mathlib.Core.List.{List, [], ◌∷◌, ◌++◌}
+use mathlib.Core.Path.{◌≡◌, ◌∙◌}
+use mathlib.Core.List.{List, [], ◌∷◌}
 use native.Mathlib.Omega.{arith}
 use lib.IntN.{ℤ, pos}
 use lib.ListN.{length, set}
-use Rattle.answer.specs.Answer.{Answer, answered, refused}
-use Rattle.answer.specs.Space.{written_is, Wrote}
+use Rattle.answer.specs.Answer.{answered, refused}
+use Rattle.answer.specs.Space.{Wrote}
 use Rattle.answer.specs.declared.Written.{Written}
 use Rattle.answer.specs.declared.Written.TheVariants.{Count, Refused}
 use Rattle.answer.proofs.Answers.{then_by, then_not}

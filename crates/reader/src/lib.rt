@@ -1,5 +1,6 @@
 // A rule book read to plain form.
 #![tactic(auto)]
+
 ghost use Rattle.std.specs.Prelude.{◌≡◌, ◌+◌, ◌-◌, ◌/◌, ◌≤◌, length};
 ghost use Rattle.answer.specs.Space.{written_is, counted, laid, Wrote};
 ghost use Rattle.field.specs.Words.{words};

@@ -1,5 +1,6 @@
 // A group CNF text turned into a rule book. First all of it is tested, and then its clauses are gone through again and written.
 #![tactic(auto)]
+
 ghost use Rattle.std.specs.Prelude.{◌≡◌, [], ◌∷◌, ◌+◌, ◌*◌, ◌^◌, ◌<◌, ◌≤◌, length};
 ghost use Rattle.answer.specs.Answer.{first};
 ghost use Rattle.answer.specs.Space.{written_is, counted, laid, Wrote};

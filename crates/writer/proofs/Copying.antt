@@ -10,7 +10,7 @@
 -- Assumes nothing.
 use Prim.Native.Nat.{ℕ, zero, suc, ◌+◌, ◌-◌, ◌*◌, ◌%◌, ◌≤◌, ◌<◌}
 use mathlib.Core.Path.{◌≡◌, refl, sym, ap, ◌∙◌}
-use mathlib.Core.List.{List, [], ◌∷◌, ◌++◌, append_assoc}
+use mathlib.Core.List.{List, [], ◌∷◌, ◌++◌}
 use mathlib.Core.Bool.{true}
 use native.Mathlib.Omega.{arith}
 use lib.IntN.{ℤ, pos, nat_abs, neg_ℤ}
@@ -18,20 +18,20 @@ use lib.ListN.{length, get_or, take, drop, length-append, length-drop}
 use lib.Seq.{take_at}
 use Rattle.answer.specs.Answer.{answered}
 use Rattle.answer.specs.Space.{Wrote}
-use Rattle.answer.proofs.Spaces.{wrote_append, Writing, writing_start, writing_room, writing_next, writing_end}
+use Rattle.answer.proofs.Spaces.{wrote_append, Writing, writing_room, writing_next, writing_end}
 use Rattle.field.specs.Words.{word_bytes, within}
 use Rattle.field.specs.Field.{field_bytes}
 use Rattle.field.proofs.Parts.{part_end}
 use Rattle.field.proofs.Words.{within_one, within_cons, length_word_bytes, word_bytes_append}
 use Rattle.field.proofs.Fields.{field_front}
-use Rattle.meaning.specs.Book.{Clause, clause_from, Book}
-use Rattle.book.specs.Bytes.{GoodClause, GoodClauses, WellFormed, clause_bytes, clauses_bytes}
+use Rattle.meaning.specs.Book.{Clause, clause_from}
+use Rattle.book.specs.Bytes.{GoodClause, GoodClauses, clause_bytes, clauses_bytes}
 use Rattle.book.proofs.Sizes.{clause_length}
-use Rattle.plain.specs.Plain.{minus, each, literals, head_literal, plain_clause, plain_clauses, plain_of}
-use Rattle.plain.specs.Taking.{Ended, literals_at, taking}
+use Rattle.plain.specs.Plain.{minus, each, literals, head_literal, plain_clause, plain_clauses}
+use Rattle.plain.specs.Taking.{Ended, literals_at}
 use Rattle.plain.proofs.Given.{length_each, clause_numbers, plain_one, body_taken}
-use Rattle.plain.proofs.Back.{Place, place_more, literals_back, taking_back}
-use Rattle.writer.specs.Steps.{scan_of, book_from, IsPlain, amounts}
+use Rattle.plain.proofs.Back.{Place, place_more, literals_back}
+use Rattle.writer.specs.Steps.{scan_of, amounts}
 use Rattle.writer.specs.declared.Scan.TheVariants as ScanV
 use Rattle.writer.proofs.Firsts.{tail, cut}
 use Rattle.writer.proofs.Passing.{scan_closed}

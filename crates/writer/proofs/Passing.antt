@@ -14,16 +14,16 @@ use mathlib.Core.List.{List, [], ◌∷◌}
 use native.Mathlib.Omega.{arith}
 use lib.IntN.{ℤ, pos, nat_abs}
 use lib.ListN.{length, get_or, take, drop, length-drop}
-use borrow.Author.Tests.{eq-eqb, ne_eqb}
+use borrow.Author.Tests.{ne_eqb}
 use Rattle.answer.specs.Answer.{Answer, answered, refused, and_then, first}
 use Rattle.answer.proofs.Answers.{then_by, then_not, unless_none, unless_some}
 use Rattle.field.proofs.Parts.{part_end}
-use Rattle.meaning.specs.Book.{Clause, clause_from, Book}
+use Rattle.meaning.specs.Book.{Clause, clause_from}
 use Rattle.book.specs.Bytes.{most_variables, most_groups}
 use Rattle.book.specs.Reading.{with_clauses}
 use Rattle.book.proofs.Sizes.{clause_length, fields_length, book_length}
 use Rattle.plain.specs.Taking.{number_at, named, groups_at, Ended, literals_at, starting, clauses_at, after_variables, taking}
-use Rattle.plain.proofs.Back.{number_is, Place, place_more, Closed, literals_back}
+use Rattle.plain.proofs.Back.{number_is, Place, place_more, literals_back}
 use Rattle.writer.specs.Steps.{scan_of, taken_of}
 use Rattle.writer.specs.declared.Scan.TheVariants as ScanV
 use Rattle.writer.specs.declared.Taken.{Taken}

@@ -5,11 +5,11 @@
 --   scanning_head, scanning_body      its next turn, after a right one
 --   head_most, body_most      a literal that is right names a variable
 -- Assumes nothing.
-use Prim.Native.Nat.{ℕ, zero, suc, ◌+◌, ◌-◌, ◌≤◌, ◌<◌}
+use Prim.Native.Nat.{ℕ, zero, suc, ◌+◌, ◌≤◌}
 use mathlib.Core.Path.{◌≡◌, refl, sym, ap, ◌∙◌}
 use mathlib.Core.List.{List, [], ◌∷◌}
 use native.Mathlib.Omega.{arith}
-use lib.IntN.{ℤ, pos, negsuc}
+use lib.IntN.{ℤ, pos}
 use lib.ListN.{length, get_or}
 use borrow.Author.Tests.{ltb-false, eqb-false}
 use Rattle.answer.specs.Answer.{Answer, answered, refused, and_then, first, unless}

@@ -1,5 +1,6 @@
 // A plain form written to a rule book. First all of it is tested, and then it is gone through again and written.
 #![tactic(auto)]
+
 ghost use Rattle.std.specs.Prelude.{◌≡◌, not, [], ◌∷◌, ◌+◌, ◌*◌, ◌^◌, ◌<◌, ◌≤◌, pos, length, get_or, drop, eqb};
 ghost use Rattle.answer.specs.Answer.{and_then, ◌⇒◌, first};
 ghost use Rattle.answer.specs.Space.{written_is, counted, laid, Wrote};

@@ -23,7 +23,7 @@ pub returns-then-is_word : goal.returns-then-is_word
 returns-then-is_word c = c.counts_from.ensures
     ∙ sym (heading_next _ _ _
     (sym c.next_token.ensures ∙ c.in-Token.is)
-    (sym c.is_IsWord.ensures ∙ c.if-is_word.true))
+    (sym c.is_word.ensures ∙ c.if-is_word.true))
 
 pub returns-in-None : goal.returns-in-None
 returns-in-None c = sym (heading_end _ (sym c.next_token.ensures ∙ c.in-None.is))
@@ -31,4 +31,4 @@ returns-in-None c = sym (heading_end _ (sym c.next_token.ensures ∙ c.in-None.i
 pub returns-else-is_word : goal.returns-else-is_word
 returns-else-is_word c = sym (heading_other _ _ _
     (sym c.next_token.ensures ∙ c.in-Token.is)
-    (sym c.is_IsWord.ensures ∙ c.if-is_word.false))
+    (sym c.is_word.ensures ∙ c.if-is_word.false))

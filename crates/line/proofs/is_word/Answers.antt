@@ -1,5 +1,4 @@
 -- What `line::is_word` leaves open, from the laws.
-use Prim.Native.Nat.{◌-◌}
 use Rattle.line.proofs.Words.{other_length, matching_start, matching_other, matching_next, matching_end}
 use Rattle.line.proofs.is_word.Goals as goal
 

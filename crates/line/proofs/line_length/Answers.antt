@@ -1,5 +1,4 @@
 -- What `line::line_length` leaves open, from the laws.
-use Prim.Native.Nat.{◌-◌}
 use Rattle.line.proofs.Tokens.{running_start, running_cut, running_next, running_end, ends_feed, ends_other}
 use Rattle.line.proofs.line_length.Goals as goal
 

@@ -8,6 +8,9 @@ pub returns-then-start-line : goal.returns-then-start-line
 returns-then-start-line c = next_all _ _ c.gap-start.ensures c.if-start-line.true
 
 -- the token begins within the line
+pub slice_bounds-token_length-start : goal.slice_bounds-token_length-start
+slice_bounds-token_length-start c = omega (arith, c.gap-start.ensures, gap_bound c.args.line.now)
+
 pub slice_bounds-token_length-count : goal.slice_bounds-token_length-count
 slice_bounds-token_length-count c = omega (arith, c.gap-start.ensures, gap_bound c.args.line.now)
 

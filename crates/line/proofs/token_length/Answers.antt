@@ -1,5 +1,4 @@
 -- What `line::token_length` leaves open, from the laws.
-use Prim.Native.Nat.{◌-◌}
 use mathlib.Core.Path.{sym, ◌∙◌}
 use Rattle.line.proofs.Tokens.{running_start, running_cut, running_next, running_end}
 use Rattle.line.proofs.token_length.Goals as goal

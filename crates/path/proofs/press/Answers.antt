@@ -55,10 +55,10 @@ overflow_add-result c = let q = (parts_take c.args.groups c.args.other c.args.si
 
 pub returns : goal.returns
 returns c = inr (
-      c.highest-group.result,
-      press_last c.args.groups c.args.set c.args.side c.args.other c.args.free c.highest-group.result c.requires.2 (ltb-true _ _ (not-false _ (sym c.exceeds.ensures ∙ c.if-exceeds.false))) (sym c.bit-b.ensures ∙ c.if-b-rest.false)
-          (eqb-true _ _ (sym c.has.ensures ∙ c.if-not-has.false)),
-      ap (λ (x : ℕ). c.args.free - x) c.bit-b.ensures,
-      ap (λ (x : ℕ). c.args.other + x) c.bit-b.ensures,
-      ap (λ (x : ℕ). set c.args.why.now c.highest-group.result x) c.gather-reason.ensures,
-    )
+  c.highest-group.result,
+  press_last c.args.groups c.args.set c.args.side c.args.other c.args.free c.highest-group.result c.requires.2 (ltb-true _ _ (not-false _ (sym c.exceeds.ensures ∙ c.if-exceeds.false))) (sym c.bit-b.ensures ∙ c.if-b-rest.false)
+      (eqb-true _ _ (sym c.has.ensures ∙ c.if-not-has.false)),
+  ap (λ (x : ℕ). c.args.free - x) c.bit-b.ensures,
+  ap (λ (x : ℕ). c.args.other + x) c.bit-b.ensures,
+  ap (λ (x : ℕ). set c.args.why.now c.highest-group.result x) c.gather-reason.ensures,
+)

@@ -1,7 +1,6 @@
 -- `records::is_open` meets its contract.
 -- Assumes nothing.
 use mathlib.Core.Path.{sym, ap}
-use lib.ListN.{set}
 use Rattle.records.proofs.Words.{is_explanation, is_repair}
 use Rattle.rounds.specs.Records.{allows}
 use Rattle.records.proofs.is_open.Goals as goal

@@ -1,19 +1,20 @@
 // Runs the cases that stand on standard input through check, read and write, and prints a line for each. tests/make_cases.py makes them, with
 // the lines that they must give, from an implementation of its own; it says there how a case is laid out.
 #![tactic(auto)]
+
 ghost use Rattle.std.specs.Prelude.{◌<◌, length};
 
 use answer::Written;
 use book::Checked;
-use libc::STDOUT_FILENO;
 use signed::Signed;
+use std::io::{self, Read, Write};
 
-fn text_book() {
-    io::write_all(STDOUT_FILENO, b"book");
+fn text_book<W: Write>(to: &mut W) -> io::Result<()> {
+    to.write_all(b"book")
 }
 
-fn text_count() {
-    io::write_all(STDOUT_FILENO, b"count");
+fn text_count<W: Write>(to: &mut W) -> io::Result<()> {
+    to.write_all(b"count")
 }
 
 // The signed number of these bits.
@@ -24,19 +25,16 @@ fn signed_of(u: u32) -> i32 {
     -1 - ((4294967295 - u) as i32)
 }
 
-fn next_numbers(out: &mut [i32]) {
-    let mut k: usize = 0;
-    while k < out.len() {
-        out[k] = signed_of(case_io::next_four());
-        k += 1;
+fn next_numbers<R: Read>(input: &mut R, numbers: &mut [i32]) -> io::Result<()> {
+    for number in numbers {
+        *number = signed_of(case_io::next_four(input)?);
     }
+    Ok(())
 }
 
 fn fill_numbers(out: &mut [i32]) {
-    let mut k: usize = 0;
-    while k < out.len() {
+    for k in 0..out.len() {
         signed::put_plus(case_io::before(k) as u16, out, k);
-        k += 1;
     }
 }
 
@@ -51,157 +49,177 @@ fn bits_at(s: &[i32], at: usize) -> u64
 
 fn sum_numbers(s: &[i32]) -> u64 {
     let mut sum: u64 = 1;
-    let mut k: usize = 0;
-    while k < s.len() {
+    for k in 0..s.len() {
         sum = case_io::added(sum, bits_at(s, k));
-        k += 1;
     }
     sum
 }
 
-fn tell_written(answer: Written) {
+fn tell_written<W: Write>(to: &mut W, answer: Written) -> io::Result<()> {
     match answer {
         Written::Count { count } => {
-            text_count();
-            case_io::put(count as u64);
+            text_count(to)?;
+            case_io::put(to, count as u64)
         }
-        Written::Refused { number, place } => {
-            case_io::tell_refused(number, place);
-        }
+        Written::Refused { number, place } => case_io::tell_refused(to, number, place),
     }
 }
 
-fn run_check(book: &[u8]) {
-    match book::check(book) {
+fn tell_checked<W: Write>(to: &mut W, answer: Checked) -> io::Result<()> {
+    match answer {
         Checked::Book {
             variables,
             groups,
             clauses,
         } => {
-            text_book();
-            case_io::put(variables as u64);
-            case_io::put(groups as u64);
-            case_io::put(clauses as u64);
+            text_book(to)?;
+            case_io::put(to, variables as u64)?;
+            case_io::put(to, groups as u64)?;
+            case_io::put(to, clauses as u64)
         }
-        Checked::Refused { number, place } => {
-            case_io::tell_refused(number, place);
-        }
+        Checked::Refused { number, place } => case_io::tell_refused(to, number, place),
     }
-    case_io::end_line();
 }
 
-fn run_read(book: &[u8], out: &mut [i32]) {
+fn run_check<W: Write>(to: &mut W, book: &[u8]) -> io::Result<()> {
+    tell_checked(to, book::check(book))?;
+    case_io::end_line(to)
+}
+
+fn run_read<W: Write>(to: &mut W, book: &[u8], out: &mut [i32]) -> io::Result<()> {
     fill_numbers(out);
-    tell_written(reader::read(book, out));
-    case_io::put(sum_numbers(out));
-    case_io::end_line();
+    tell_written(to, reader::read(book, out))?;
+    case_io::put(to, sum_numbers(out))?;
+    case_io::end_line(to)
 }
 
-fn run_write(plain: &[i32], out: &mut [u8]) {
+fn run_write<W: Write>(to: &mut W, plain: &[i32], out: &mut [u8]) -> io::Result<()> {
     case_io::fill_bytes(out);
-    tell_written(writer::write(plain, out));
-    case_io::put(case_io::sum_bytes(out));
-    case_io::end_line();
+    tell_written(to, writer::write(plain, out))?;
+    case_io::put(to, case_io::sum_bytes(out))?;
+    case_io::end_line(to)
 }
 
 // From `at` to `end`, what stands n places before.
 fn repeat_numbers(n: usize, at: usize, end: usize, buffer: &mut [i32]) {
-    let mut k = at;
-    while k < end {
+    for k in at..end {
         if buffer.len() <= k {
             return;
         }
         if k < n {
             return;
         }
-        let b = buffer[k - n];
-        buffer[k] = b;
-        k += 1;
+        buffer[k] = buffer[k - n];
     }
 }
 
 // One run of numbers into a buffer from `at` on: the place after it.
-fn run_of_numbers(at: usize, buffer: &mut [i32]) -> usize {
-    let total = case_io::next_four() as usize;
-    let n = case_io::next_two();
+fn run_of_numbers<R: Read>(input: &mut R, at: usize, buffer: &mut [i32]) -> io::Result<usize> {
+    let total = case_io::next_four(input)? as usize;
+    let n = case_io::next_two(input)?;
     if 1000000 < at {
-        return at;
+        return Ok(at);
     }
     let end = at + n;
     if buffer.len() < end {
-        return end;
+        return Ok(end);
     }
-    next_numbers(&mut buffer[at..end]);
+    next_numbers(input, &mut buffer[at..end])?;
     let last = at + total;
     repeat_numbers(n, end, last, buffer);
-    last
+    Ok(last)
 }
 
 // The next n numbers, which stand as runs, into a buffer.
-fn take_numbers(n: usize, buffer: &mut [i32]) {
+fn take_numbers<R: Read>(input: &mut R, n: usize, buffer: &mut [i32]) -> io::Result<()> {
     let mut at: usize = 0;
-    let mut k: u32 = 0;
-    while k < 100000 {
+    for _ in 0..100000u32 {
         if n <= at {
-            return;
+            return Ok(());
         }
-        at = run_of_numbers(at, buffer);
-        k += 1;
+        at = run_of_numbers(input, at, buffer)?;
     }
+    Ok(())
 }
 
-fn run_bytes(call: u8, n: usize, room: usize, bytes: &[u8], space: &mut [i32]) {
+fn run_bytes<W: Write>(
+    to: &mut W,
+    call: u8,
+    n: usize,
+    room: usize,
+    bytes: &[u8],
+    space: &mut [i32],
+) -> io::Result<()> {
     if bytes.len() < n {
-        return;
+        return Ok(());
     }
     if space.len() < room {
-        return;
+        return Ok(());
     }
     if call == 1 {
-        run_check(&bytes[..n]);
-        return;
+        return run_check(to, &bytes[..n]);
     }
-    run_read(&bytes[..n], &mut space[..room]);
+    run_read(to, &bytes[..n], &mut space[..room])
 }
 
-fn run_numbers(n: usize, room: usize, plain: &[i32], space: &mut [u8]) {
+fn run_numbers<W: Write>(
+    to: &mut W,
+    n: usize,
+    room: usize,
+    plain: &[i32],
+    space: &mut [u8],
+) -> io::Result<()> {
     if plain.len() < n {
-        return;
+        return Ok(());
     }
     if space.len() < room {
-        return;
+        return Ok(());
     }
-    run_write(&plain[..n], &mut space[..room]);
+    run_write(to, &plain[..n], &mut space[..room])
 }
 
-fn case_of_bytes(call: u8, n: usize, room: usize) {
+fn case_of_bytes<R: Read, W: Write>(
+    input: &mut R,
+    to: &mut W,
+    call: u8,
+    n: usize,
+    room: usize,
+) -> io::Result<()> {
     let mut bytes = [0u8; 65600];
     let mut space = [0i32; 80000];
-    case_io::take_bytes(n, &mut bytes);
-    run_bytes(call, n, room, &bytes, &mut space);
+    case_io::take_bytes(input, n, &mut bytes)?;
+    run_bytes(to, call, n, room, &bytes, &mut space)
 }
 
-fn case_of_numbers(n: usize, room: usize) {
+fn case_of_numbers<R: Read, W: Write>(
+    input: &mut R,
+    to: &mut W,
+    n: usize,
+    room: usize,
+) -> io::Result<()> {
     let mut plain = [0i32; 80000];
     let mut space = [0u8; 70000];
-    take_numbers(n, &mut plain);
-    run_numbers(n, room, &plain, &mut space);
+    take_numbers(input, n, &mut plain)?;
+    run_numbers(to, n, room, &plain, &mut space)
 }
 
-fn main() {
-    let mut k: u32 = 0;
-    while k < 100000 {
-        let call = case_io::next_call();
+fn run_cases<R: Read, W: Write>(input: &mut R, to: &mut W) -> io::Result<()> {
+    for _ in 0..100000u32 {
+        let call = case_io::next_call(input)?;
         if call == 0 {
-            return;
+            return Ok(());
         }
-        let n = case_io::next_four() as usize;
-        let room = case_io::next_four() as usize;
+        let n = case_io::next_four(input)? as usize;
+        let room = case_io::next_four(input)? as usize;
         if call == 3 {
-            case_of_numbers(n, room);
+            case_of_numbers(input, to, n, room)?;
         } else {
-            case_of_bytes(call, n, room);
+            case_of_bytes(input, to, call, n, room)?;
         }
-        k += 1;
     }
+    Ok(())
+}
+
+fn main(rt: HostRuntime) -> io::Result<()> {
+    run_cases(&mut rt.reader(), &mut io::writer(&rt))
 }

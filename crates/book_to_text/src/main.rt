@@ -1,17 +1,19 @@
 // Reads a rule book from standard input and writes it as group CNF text. A book that is refused gives one line: refused, the number, the place.
 #![tactic(auto)]
-use libc::STDIN_FILENO;
+
+use input::read_full;
+use std::io::{self, Write};
 
 // The longest text of a book has 186,242 bytes (docs/INTEGRATING.md), so that the space is never too small.
-fn convert(book: &[u8], text: &mut [u8]) {
+fn convert<W: Write>(out: &mut W, book: &[u8], text: &mut [u8]) -> io::Result<()> {
     let answer = text_writer::to_text(book, text);
-    tell::written(answer, text);
+    tell::written(out, answer, text)
 }
 
 // One byte more than a book can have at most, so that a longer one is refused.
-fn main() {
+fn main(rt: HostRuntime) -> io::Result<()> {
     let mut book = [0u8; 65536];
     let mut text = [0u8; 262144];
-    let n = io::read_full(STDIN_FILENO, &mut book);
-    convert(&book[..n], &mut text);
+    let n = read_full(&mut rt.reader(), &mut book)?;
+    convert(&mut io::writer(&rt), &book[..n], &mut text)
 }

@@ -1,28 +1,41 @@
-// What the programs that run stored cases share: the parts of a case as they stand on standard input, what stands in lent space before a call,
+// What the programs that run stored cases share: the parts of a case as they stand in the input, what stands in lent space before a call,
 // a checksum of it after the call, and the parts of a line.
 #![tactic(auto)]
-ghost use Rattle.std.specs.Prelude.{◌≡◌, ◌<◌, length};
+
+ghost use Rattle.std.specs.Prelude.{◌≡◌, ◌<◌, [], ◌∷◌, ◌++◌, length, IfOk, OnOk, codes};
+ghost use Rattle.std.specs.Fmt.{decimal};
+ghost use Rattle.std.specs.Io.KnownBytes.{Appends};
 ghost use Rattle.case_io.specs.Fill.{start_at, filled, word_at, words, one_more, sum_from};
 
-use libc::{STDIN_FILENO, STDOUT_FILENO};
+use input::read_full;
+use std::io::{self, Read, Write};
 
-pub fn end_line() {
-    io::write_all(STDOUT_FILENO, b"\n");
+// After an error of a function that prints, a part of what it was to print may be printed.
+pub fn end_line<W: Write>(out: &mut W) -> io::Result<()>
+    ensures { OnOk result (Appends (W.contents out.old) (W.contents out.new) (10 ∷ [])) }
+{
+    out.write_all(b"\n")
 }
 
-pub fn put(n: u64) {
-    io::write_all(STDOUT_FILENO, b" ");
-    io::print_decimal(STDOUT_FILENO, n);
+// A blank, and a number.
+pub fn put<W: Write>(out: &mut W, n: u64) -> io::Result<()>
+    ensures { OnOk result (Appends (W.contents out.old) (W.contents out.new) (32 ∷ decimal n)) }
+{
+    write!(out, " {n}")
 }
 
-fn text_refused() {
-    io::write_all(STDOUT_FILENO, b"refused");
+fn text_refused<W: Write>(out: &mut W) -> io::Result<()>
+    ensures { OnOk result (Appends (W.contents out.old) (W.contents out.new) (codes "refused")) }
+{
+    out.write_all(b"refused")
 }
 
-pub fn tell_refused(number: u8, place: usize) {
-    text_refused();
-    put(number as u64);
-    put(place as u64);
+pub fn tell_refused<W: Write>(out: &mut W, number: u8, place: usize) -> io::Result<()>
+    ensures { OnOk result (Appends (W.contents out.old) (W.contents out.new) (codes "refused" ++ 32 ∷ decimal number ++ 32 ∷ decimal place)) }
+{
+    text_refused(out)?;
+    put(out, number as u64)?;
+    put(out, place as u64)
 }
 
 fn wide(b: u8) -> u64
@@ -32,55 +45,55 @@ fn wide(b: u8) -> u64
     b as u64
 }
 
+// After an error of a function that reads, what was read by then is gone from the input.
 // Which call is next; 0 at the end.
-pub fn next_call() -> u8
-    ensures { result < 256 }
+pub fn next_call<R: Read>(input: &mut R) -> io::Result<u8>
+    ensures { IfOk result (λ b. b < 256) }
 {
     let mut b = [0u8; 1];
-    io::read_full(STDIN_FILENO, &mut b);
-    wide(b[0]) as u8
+    read_full(input, &mut b)?;
+    Ok(wide(b[0]) as u8)
 }
 
 // The next number of two bytes.
-pub fn next_two() -> usize
-    ensures { result < 65536 }
+pub fn next_two<R: Read>(input: &mut R) -> io::Result<usize>
+    ensures { IfOk result (λ n. n < 65536) }
 {
     let mut b = [0u8; 2];
-    io::read_full(STDIN_FILENO, &mut b);
-    (wide(b[0]) * 256 + wide(b[1])) as usize
+    read_full(input, &mut b)?;
+    Ok((wide(b[0]) * 256 + wide(b[1])) as usize)
 }
 
 // The next number of four bytes; 0 at the end.
-pub fn next_four() -> u32
-    ensures { result < 4294967296 }
+pub fn next_four<R: Read>(input: &mut R) -> io::Result<u32>
+    ensures { IfOk result (λ n. n < 4294967296) }
 {
     let mut b = [0u8; 4];
-    io::read_full(STDIN_FILENO, &mut b);
+    read_full(input, &mut b)?;
     let n = ((wide(b[0]) * 256 + wide(b[1])) * 256 + wide(b[2])) * 256 + wide(b[3]);
-    (n % 4294967296) as u32
+    Ok((n % 4294967296) as u32)
 }
 
 // The next number of eight bytes.
-pub fn next_eight() -> usize {
-    let high = next_four() as usize;
-    let low = next_four() as usize;
-    high * 4294967296 + low
+pub fn next_eight<R: Read>(input: &mut R) -> io::Result<usize> {
+    let high = next_four(input)? as usize;
+    let low = next_four(input)? as usize;
+    Ok(high * 4294967296 + low)
 }
 
-fn next_records(records: &mut [u32]) {
-    let mut k: usize = 0;
-    while k < records.len() {
-        records[k] = next_four();
-        k += 1;
+fn next_records<R: Read>(input: &mut R, records: &mut [u32]) -> io::Result<()> {
+    for record in records {
+        *record = next_four(input)?;
     }
+    Ok(())
 }
 
-// The next numbers of four bytes into the front of a space; none where it is too short for them.
-pub fn take_records(given: usize, records: &mut [u32]) {
+// The next numbers of four bytes into the front of a space; none where it is too short for them. After an error some of them may stand there.
+pub fn take_records<R: Read>(input: &mut R, given: usize, records: &mut [u32]) -> io::Result<()> {
     if records.len() < given {
-        return;
+        return Ok(());
     }
-    next_records(&mut records[..given]);
+    next_records(input, &mut records[..given])
 }
 
 // Copies a block of n bytes that ends at `at` onwards to `end`.
@@ -100,33 +113,32 @@ fn repeat_bytes(n: usize, at: usize, end: usize, buffer: &mut [u8]) {
 }
 
 // One run into a buffer from `at` on, a block and its copies: the place after it.
-fn run_of_bytes(at: usize, buffer: &mut [u8]) -> usize {
-    let total = next_four() as usize;
-    let n = next_two();
+fn run_of_bytes<R: Read>(input: &mut R, at: usize, buffer: &mut [u8]) -> io::Result<usize> {
+    let total = next_four(input)? as usize;
+    let n = next_two(input)?;
     if 1000000 < at {
-        return at;
+        return Ok(at);
     }
     let end = at + n;
     if buffer.len() < end {
-        return end;
+        return Ok(end);
     }
-    io::read_full(STDIN_FILENO, &mut buffer[at..end]);
+    read_full(input, &mut buffer[at..end])?;
     let last = at + total;
     repeat_bytes(n, end, last, buffer);
-    last
+    Ok(last)
 }
 
-// The next n bytes, which stand as runs, into a buffer.
-pub fn take_bytes(n: usize, buffer: &mut [u8]) {
+// The next n bytes, which stand as runs, into a buffer. After an error some of them may stand there.
+pub fn take_bytes<R: Read>(input: &mut R, n: usize, buffer: &mut [u8]) -> io::Result<()> {
     let mut at: usize = 0;
-    let mut k: u32 = 0;
-    while k < 100000 {
+    for _ in 0..100000u32 {
         if n <= at {
-            return;
+            return Ok(());
         }
-        at = run_of_bytes(at, buffer);
-        k += 1;
+        at = run_of_bytes(input, at, buffer)?;
     }
+    Ok(())
 }
 
 // What stands in lent space before a call.

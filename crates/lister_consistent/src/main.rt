@@ -1,5 +1,7 @@
 // The listing program on a consistent book (stdin).
 #![tactic(auto)]
-fn main() {
-    listing_run::run();
+use std::io;
+
+fn main(rt: HostRuntime) -> io::Result<()> {
+    listing_run::run(&mut rt.reader(), &mut io::writer(&rt))
 }

@@ -1,7 +1,9 @@
 // The run of the listing program, which several programs share.
 #![tactic(auto)]
+
 use admit::WORK_WORDS;
-use libc::STDIN_FILENO;
+use input::read_full;
+use std::io::{self, Read, Write};
 
 // Room for so many records.
 const ROOM: usize = 4096;
@@ -10,35 +12,46 @@ const ROOM: usize = 4096;
 const TEXT: usize = 426048;
 
 // The functions below lend spaces that are large enough, so none of the tests turns a book away.
-fn print_text(book: &[u8], records: &mut [u32], work: &mut [u16], out: &mut [u8]) {
+fn print_text<W: Write>(
+    to: &mut W,
+    book: &[u8],
+    records: &mut [u32],
+    work: &mut [u16],
+    out: &mut [u8],
+) -> io::Result<()> {
     if work.len() < WORK_WORDS {
-        return;
+        return Ok(());
     }
     if 2 * ROOM < records.len() {
-        return;
+        return Ok(());
     }
     if out.len() < TEXT {
-        return;
+        return Ok(());
     }
     let n = listing::put_text(book, records, work, out);
-    tell::front(out, n);
+    tell::front(to, out, n)
 }
 
-fn print_listing(book: &[u8], records: &mut [u32], work: &mut [u16]) {
+fn print_listing<W: Write>(
+    to: &mut W,
+    book: &[u8],
+    records: &mut [u32],
+    work: &mut [u16],
+) -> io::Result<()> {
     let mut out = [0u8; 426048];
-    print_text(book, records, work, &mut out);
+    print_text(to, book, records, work, &mut out)
 }
 
-// Prints the listing of a book, with room for 4,096 records; or its refusal.
-pub fn print_book(book: &[u8]) {
+// Prints the listing of a book, with room for 4,096 records; or its refusal. After an error a part of it may be printed.
+pub fn print_book<W: Write>(to: &mut W, book: &[u8]) -> io::Result<()> {
     let mut records = [0u32; 8192];
     let mut work = [0u16; 8192];
-    print_listing(book, &mut records, &mut work);
+    print_listing(to, book, &mut records, &mut work)
 }
 
-// Reads a book from standard input, one byte more than a book can have at most, and prints its listing, with room for 4,096 records; or its refusal.
-pub fn run() {
+// Reads a book, one byte more than a book can have at most, and prints its listing, with room for 4,096 records; or its refusal.
+pub fn run<R: Read, W: Write>(input: &mut R, to: &mut W) -> io::Result<()> {
     let mut book = [0u8; 65536];
-    let n = io::read_full(STDIN_FILENO, &mut book);
-    print_book(&book[..n]);
+    let n = read_full(input, &mut book)?;
+    print_book(to, &book[..n])
 }

@@ -1,44 +1,57 @@
 // What programs print of an answer: what was written, or the refusal. And whether a text is longer than programs take.
+// After an error a part of what was to be printed may be printed.
 #![tactic(auto)]
-ghost use Rattle.std.specs.Prelude.{◌≤◌, length};
+
+ghost use Rattle.std.specs.Prelude.{◌≡◌, ◌<◌, ◌↔◌, ◌∷◌, [], ◌++◌, length, take, IfOk, OnOk, IsTrue, codes};
+ghost use Rattle.std.specs.Fmt.{decimal};
+ghost use Rattle.std.specs.Io.KnownBytes.{Appends};
+ghost use Rattle.tell.specs.Told.{refusal, front_of, answer_of};
 
 use answer::Written;
-use libc::{STDERR_FILENO, STDOUT_FILENO};
+use std::io::{self, Write};
 
-pub fn blank() {
-    io::write_all(STDOUT_FILENO, b" ");
+pub fn blank<W: Write>(out: &mut W) -> io::Result<()>
+    ensures { OnOk result (Appends (W.contents out.old) (W.contents out.new) (32 ∷ [])) }
+{
+    out.write_all(b" ")
 }
 
-pub fn end_line() {
-    io::write_all(STDOUT_FILENO, b"\n");
+pub fn end_line<W: Write>(out: &mut W) -> io::Result<()>
+    ensures { OnOk result (Appends (W.contents out.old) (W.contents out.new) (10 ∷ [])) }
+{
+    out.write_all(b"\n")
 }
 
-pub fn put(n: u64) {
-    io::print_decimal(STDOUT_FILENO, n);
+pub fn put<W: Write>(out: &mut W, n: u64) -> io::Result<()>
+    ensures { OnOk result (Appends (W.contents out.old) (W.contents out.new) (decimal n)) }
+{
+    write!(out, "{n}")
 }
 
 // One line: refused, the number, the place.
-pub fn refused(number: u8, place: usize) {
-    io::write_all(STDOUT_FILENO, b"refused ");
-    put(number as u64);
-    blank();
-    put(place as u64);
-    end_line();
+pub fn refused<W: Write>(out: &mut W, number: u8, place: usize) -> io::Result<()>
+    ensures { OnOk result (Appends (W.contents out.old) (W.contents out.new) (refusal number place)) }
+{
+    writeln!(out, "refused {number} {place}")
 }
 
-// The first bytes of a space.
-pub fn front(space: &[u8], n: usize) {
+// The first bytes of a space; none where it is too short for them.
+pub fn front<W: Write>(out: &mut W, space: &[u8], n: usize) -> io::Result<()>
+    ensures { OnOk result (Appends (W.contents out.old) (W.contents out.new) (front_of space.now n)) }
+{
     if space.len() < n {
-        return;
+        return Ok(());
     }
-    io::write_all(STDOUT_FILENO, &space[..n]);
+    out.write_all(&space[..n])
 }
 
 // The bytes that a call wrote into the front of a space, or its refusal.
-pub fn written(answer: Written, space: &[u8]) {
+pub fn written<W: Write>(out: &mut W, answer: Written, space: &[u8]) -> io::Result<()>
+    ensures { OnOk result (Appends (W.contents out.old) (W.contents out.new) (answer_of answer space.now)) }
+{
     match answer {
-        Written::Count { count } => front(space, count),
-        Written::Refused { number, place } => refused(number, place),
+        Written::Count { count } => front(out, space, count),
+        Written::Refused { number, place } => refused(out, number, place),
     }
 }
 
@@ -46,10 +59,12 @@ pub fn written(answer: Written, space: &[u8]) {
 const MOST_TEXT: usize = 524288;
 
 // Whether a text of so many bytes is longer than that; then it says so on standard error.
-pub fn too_long(n: usize) -> bool {
+pub fn too_long(rt: &impl Eprint, n: usize) -> io::Result<bool>
+    ensures { IfOk result (λ long. IsTrue long ↔ (524288 < n)) }
+{
     if n <= MOST_TEXT {
-        return false;
+        return Ok(false);
     }
-    io::write_all(STDERR_FILENO, b"text longer than 524288 bytes\n");
-    true
+    eprintln!(rt; "text longer than 524288 bytes")?;
+    Ok(true)
 }

@@ -1,33 +1,35 @@
 // Reads group CNF text from standard input and prints the listing of its book, as lister does. A text that is refused gives one line: refused, the number, the line.
 #![tactic(auto)]
+
 use answer::Written;
-use libc::STDIN_FILENO;
+use input::read_full;
+use std::io::{self, Write};
 
-fn print_book(book: &[u8], n: usize) {
+fn print_book<W: Write>(out: &mut W, book: &[u8], n: usize) -> io::Result<()> {
     if book.len() < n {
-        return;
+        return Ok(());
     }
-    listing_run::print_book(&book[..n]);
+    listing_run::print_book(out, &book[..n])
 }
 
-fn print_listing(text: &[u8], book: &mut [u8]) {
+fn print_listing<W: Write>(out: &mut W, text: &[u8], book: &mut [u8]) -> io::Result<()> {
     match text_reader::from_text(text, book) {
-        Written::Count { count } => print_book(book, count),
-        Written::Refused { number, place } => tell::refused(number, place),
+        Written::Count { count } => print_book(out, book, count),
+        Written::Refused { number, place } => tell::refused(out, number, place),
     }
 }
 
-fn run(text: &[u8]) {
-    if tell::too_long(text.len()) {
-        return;
+fn run(rt: &(impl Print + Eprint), text: &[u8]) -> io::Result<()> {
+    if tell::too_long(rt, text.len())? {
+        return Ok(());
     }
     let mut book = [0u8; 65535];
-    print_listing(text, &mut book);
+    print_listing(&mut io::writer(rt), text, &mut book)
 }
 
 // One byte more than is taken, so that a longer text is seen to be too long.
-fn main() {
+fn main(rt: HostRuntime) -> io::Result<()> {
     let mut text = [0u8; 524289];
-    let n = io::read_full(STDIN_FILENO, &mut text);
-    run(&text[..n]);
+    let n = read_full(&mut rt.reader(), &mut text)?;
+    run(&rt, &text[..n])
 }

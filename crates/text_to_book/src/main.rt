@@ -1,23 +1,25 @@
 // Reads group CNF text from standard input and writes its book. A text that is refused gives one line: refused, the number, the line.
 #![tactic(auto)]
-use libc::STDIN_FILENO;
 
-fn convert(text: &[u8], book: &mut [u8]) {
+use input::read_full;
+use std::io::{self, Write};
+
+fn convert<W: Write>(out: &mut W, text: &[u8], book: &mut [u8]) -> io::Result<()> {
     let answer = text_reader::from_text(text, book);
-    tell::written(answer, book);
+    tell::written(out, answer, book)
 }
 
-fn run(text: &[u8]) {
-    if tell::too_long(text.len()) {
-        return;
+fn run(rt: &(impl Print + Eprint), text: &[u8]) -> io::Result<()> {
+    if tell::too_long(rt, text.len())? {
+        return Ok(());
     }
     let mut book = [0u8; 65535];
-    convert(text, &mut book);
+    convert(&mut io::writer(rt), text, &mut book)
 }
 
 // One byte more than is taken, so that a longer text is seen to be too long.
-fn main() {
+fn main(rt: HostRuntime) -> io::Result<()> {
     let mut text = [0u8; 524289];
-    let n = io::read_full(STDIN_FILENO, &mut text);
-    run(&text[..n]);
+    let n = read_full(&mut rt.reader(), &mut text)?;
+    run(&rt, &text[..n])
 }

@@ -1,0 +1,2 @@
+-- What programs print of an answer.
+pub mod Told

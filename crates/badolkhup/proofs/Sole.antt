@@ -1,8 +1,8 @@
 -- The contracts of the exported calls determine what crosses and what every space holds.
---   count-crosses-one        of read, write, from_text and to_text; of check it is `crosses_one`
---   ask-crosses-one          of ask
---   explain-crosses-one      of explain
---   list-crosses-one         of round and list
+--   count_crosses_one        of read, write, from_text and to_text; of check it is `crosses_one`
+--   ask_crosses_one          of ask
+--   explain_crosses_one      of explain
+--   list_crosses_one         of round and list
 -- Assumes nothing.
 use Prim.Native.Nat.{ℕ}
 use mathlib.Core.Path.{◌≡◌, sym, ap, ◌∙◌}
@@ -19,41 +19,41 @@ use Rattle.list.proofs.Lists.{list_one}
 use Rattle.badolkhup.specs.Crossing.{Crosses, Crossing}
 use Rattle.badolkhup.proofs.Crossing.{crosses_as, crosses_one}
 
-pub count-crosses-one :
+pub count_crosses_one :
     (a : Answer (List ℕ)) (out o o' : List ℕ) {r r' : ℕ} {ns ns' : List ℕ}
     → Crosses (counted a) r ns × (o ≡ laid a out)
     → Crosses (counted a) r' ns' × (o' ≡ laid a out)
     → (r ≡ r') × (ns ≡ ns') × (o ≡ o')
-count-crosses-one a out o o' p q =
+count_crosses_one a out o o' p q =
     let both = crosses_one p.0 q.0 in
     (both.0, both.1, p.1 ∙ sym q.1)
 
-pub ask-crosses-one :
+pub ask_crosses_one :
     (a : Answer Book) (x : ℕ) (out work o o' w w' : List ℕ) {r r' : ℕ} {ns ns' : List ℕ}
     → Crossing asked_is (λ e. Asking a x e out work o w) r ns
     → Crossing asked_is (λ e. Asking a x e out work o' w') r' ns'
     → (r ≡ r') × (ns ≡ ns') × (o ≡ o') × (w ≡ w')
-ask-crosses-one a x out work o o' w w' p q =
+ask_crosses_one a x out work o o' w w' p q =
     let one = ask_one a x p.0 q.0 out work o o' w w' p.1.0 q.1.0 in
     let both = crosses_one (crosses_as (ap asked_is one.0) p.1.1) q.1.1 in
     (both.0, both.1, one.1, one.2)
 
-pub explain-crosses-one :
+pub explain_crosses_one :
     (a : Answer Book) (x : ℕ) (work w w' : List ℕ) {r r' : ℕ} {ns ns' : List ℕ}
     → Crossing explained_is (λ e. Explaining a x e work w) r ns
     → Crossing explained_is (λ e. Explaining a x e work w') r' ns'
     → (r ≡ r') × (ns ≡ ns') × (w ≡ w')
-explain-crosses-one a x work w w' p q =
+explain_crosses_one a x work w w' p q =
     let one = explain_one a x p.0 q.0 work w w' p.1.0 q.1.0 in
     let both = crosses_one (crosses_as (ap explained_is one.0) p.1.1) q.1.1 in
     (both.0, both.1, one.1)
 
-pub list-crosses-one :
+pub list_crosses_one :
     (a : Answer Book) (k : ℕ) (ws : List ℕ) (c : ℕ) (work v v' w w' : List ℕ) {r r' : ℕ} {ns ns' : List ℕ}
     → Crossing listed_is (λ e. Listing a k e ws c work v w) r ns
     → Crossing listed_is (λ e. Listing a k e ws c work v' w') r' ns'
     → (r ≡ r') × (ns ≡ ns') × (v ≡ v') × (w ≡ w')
-list-crosses-one a k ws c work v v' w w' p q =
+list_crosses_one a k ws c work v v' w w' p q =
     let one = list_one a k p.0 q.0 ws c work v v' w w' p.1.0 q.1.0 in
     let both = crosses_one (crosses_as (ap listed_is one.0) p.1.1) q.1.1 in
     (both.0, both.1, one.1, one.2)

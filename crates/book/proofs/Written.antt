@@ -1,4 +1,4 @@
--- What is written is read back: reading the bytes of a well_formed book, if they are at most 65,535, gives that book.
+-- What is written is read back: reading the bytes of a well-formed book, if they are at most 65,535, gives that book.
 --   Starts c rest r      reading finds the clause c first in r, and then rest
 --   starts               that is so where c was written
 --   header_after         what follows the header

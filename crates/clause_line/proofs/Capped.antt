@@ -5,7 +5,7 @@
 --   cap_same                 a number below 65,535 is held
 --   cap_far                  a number is above a limit where what is held of it is
 --   capped_within            literals within the variables are held
---   found-tests              what is found to be wrong is what is wrong
+--   found_tests_lem              what is found to be wrong is what is wrong
 --   capped_right, group_right, kept_right      where nothing is wrong, the literals and the group are held, and the body is what is kept
 -- Assumes nothing.
 use Prim.Native.Nat.{ℕ, zero, suc, ◌≤◌, ◌<◌}
@@ -117,24 +117,24 @@ far false false z r r' e = refl
 far false true false r r' e = refl
 far false true true r r' e = e refl refl
 
-module _ (v g left k : ℕ) (zs : List ℤ) (few-variables : v < 65535) (few-groups : g < 65535) where
+module _ (v g left k : ℕ) (zs : List ℤ) (few_variables : v < 65535) (few_groups : g < 65535) where
   -- what is tested where nothing is far
   abbrev later : List ℤ → Bool → ℕ
   later ys long = first ((not (each (head_in ys) (heads ys)) ⇒ 20) ∷ (eqb left 0 ⇒ 6) ∷ (long ⇒ 5) ∷ [])
 
-  pub found-tests :
+  pub found_tests_lem :
       first (found_tests (ltb g (cap k) || beyond v (capped zs)) (not (each (head_in (capped zs)) (heads (capped zs)))) left (length (kept_of (capped zs)))) ≡ first (clause_tests v g left k zs)
   unfolding first beyond
-  found-tests =
+  found_tests_lem =
       let b : (ltb g (cap k) || beyond v (capped zs)) ≡ (ltb g k || (not (within 1 v (heads zs)) || not (within 1 v (bodies zs)))) =
-      simp (cap_far g k few-groups, heads_capped zs, bodies_capped zs, within_cap v (heads zs) few-variables, within_cap v (bodies zs) few-variables) in
+      simp (cap_far g k few_groups, heads_capped zs, bodies_capped zs, within_cap v (heads zs) few_variables, within_cap v (bodies zs) few_variables) in
       ap (λ (t : Bool). cond t 7 (later (capped zs) (ltb most_body (length (kept_of (capped zs)))))) b
       ∙ far (ltb g k) (within 1 v (heads zs)) (within 1 v (bodies zs)) (later (capped zs) (ltb most_body (length (kept_of (capped zs))))) (later zs (ltb most_body (length (body_in zs))))
-      (λ p q. ap (λ (ys : List ℤ). later ys (ltb most_body (length (kept_of ys)))) (capped_within v zs few-variables p q) ∙ ap (later zs) (kept_test zs))
+      (λ p q. ap (λ (ys : List ℤ). later ys (ltb most_body (length (kept_of ys)))) (capped_within v zs few_variables p q) ∙ ap (later zs) (kept_test zs))
 
   module _ (right : first (clause_tests v g left k zs) ≡ 0) where
     pub capped_right : capped zs ≡ zs
-    capped_right = let r = tests_right v g left k zs right in capped_within v zs few-variables r.positive r.negative
+    capped_right = let r = tests_right v g left k zs right in capped_within v zs few_variables r.positive r.negative
 
     pub group_right : cap k ≡ k
     group_right = cap_same k (omega (arith, (tests_right v g left k zs right).group))

@@ -207,17 +207,17 @@ module _ (v : ℕ) (rest t old body : List ℕ) (far several : Bool) (h count : 
   pub scan_none : next_literal t ≡ LiteralV.None → Scanned v rest old ScanV.Formless body
   scan_none e = let q = literal_none t e in formless q.0 q.1
 
-  module _ (next : ℕ) (zero-next : next_literal t ≡ LiteralV.Zero next) (blank : Bool) (is : blank ≡ none (tokens (take (length t - next) (drop next t)))) where
+  module _ (next : ℕ) (zero_next : next_literal t ≡ LiteralV.Zero next) (blank : Bool) (is : blank ≡ none (tokens (take (length t - next) (drop next t)))) where
     closes : closed (tokens t) ≡ blank
-    closes = (literal_zero t next zero-next).2 ∙ ap (λ (u : List ℕ). none (tokens u)) (sym (part_end t next)) ∙ sym is
+    closes = (literal_zero t next zero_next).2 ∙ ap (λ (u : List ℕ). none (tokens u)) (sym (part_end t next)) ∙ sym is
 
     pub scan_open : blank ≡ false → Scanned v rest old ScanV.Formless body
-    scan_open e = formless (literal_zero t next zero-next).1 (closes ∙ e)
+    scan_open e = formless (literal_zero t next zero_next).1 (closes ∙ e)
 
     pub scan_zero : blank ≡ true → Scanned v rest old (ScanV.Literals far several h count) body
     unfolding scan_of
     scan_zero e =
-        let a = (literal_zero t next zero-next).1 in
+        let a = (literal_zero t next zero_next).1 in
         let f = S.is_far in
         let s = S.is_several in
         let i = S.is_head in

@@ -37,7 +37,7 @@ use Rattle.clause_line.specs.declared.Scan.TheVariants as ScanV
 use Rattle.clause_line.specs.declared.Step.{Step}
 use Rattle.clause_line.specs.declared.Step.TheVariants as StepV
 use Rattle.clause_line.proofs.Kept.{kept_most}
-use Rattle.clause_line.proofs.Capped.{found-tests, capped_right, group_right, kept_right}
+use Rattle.clause_line.proofs.Capped.{found_tests_lem, capped_right, group_right, kept_right}
 
 -- ---- a clause, by what its literals were found to be
 module _ (g left k : ℕ) (s : Scan) where
@@ -84,7 +84,7 @@ module _ (v g left : ℕ) (l old : List ℕ) where
   unfolding step_of by_form body_after body_from
   stepped_heading a b c e = (sym (rw (start_heading l a b c e).is), sym (rw e))
 
-  module _ (k next : ℕ) (begun : start_of l ≡ StartV.Clause k next) (few-variables : v < 65535) (few-groups : g < 65535) where
+  module _ (k next : ℕ) (begun : start_of l ≡ StartV.Clause k next) (few_variables : v < 65535) (few_groups : g < 65535) where
     clause_step : step_from g left k (scan_of v (tokens (drop next l))) ≡ step_of v g left l
     unfolding step_of by_form scan_of step_from
     clause_step =
@@ -95,12 +95,12 @@ module _ (v g left : ℕ) (l old : List ℕ) where
             → step_from g left k (cond b (literals_of v (capped zs)) ScanV.Formless) ≡ step_of v g left l
         go false k' zs p q = sym (rw q)
         go true k' zs p q =
-            rw (p, q, found-tests v g left k' zs few-variables few-groups)
+            rw (p, q, found_tests_lem v g left k' zs few_variables few_groups)
             (unless_same (first (clause_tests v g left k' zs)) (StepV.Clause (cap k') (head_in (capped zs)) (length (kept_of (capped zs)))) (StepV.Clause k' (head_in zs) (length (body_in zs)))
             (λ r.
-            let a = group_right v g left k' zs few-variables few-groups r in
-            let b = ap (λ (ys : List ℤ). head_in ys) (capped_right v g left k' zs few-variables few-groups r) in
-            let c = ap length (kept_right v g left k' zs few-variables few-groups r) in
+            let a = group_right v g left k' zs few_variables few_groups r in
+            let b = ap (λ (ys : List ℤ). head_in ys) (capped_right v g left k' zs few_variables few_groups r) in
+            let c = ap length (kept_right v g left k' zs few_variables few_groups r) in
             cc))
 
     pub stepped_clause : (s : Step) (new : List ℕ) → s ≡ step_from g left k (scan_of v (tokens (take (length l - next) (drop next l))))
@@ -170,7 +170,7 @@ module _ (v g left : ℕ) (l : List ℕ) where
 
   pub step_body : (k h n : ℕ) (old : List ℕ) → v < 65535 → g < 65535 → step_of v g left l ≡ StepV.Clause k h n → Added v g left l k h n old
   unfolding step_of by_form
-  step_body k h n old few-variables few-groups e = go (line_of l) refl e
+  step_body k h n old few_variables few_groups e = go (line_of l) refl e
     where
       go : (f : Line) → line_of l ≡ f → by_line f ≡ StepV.Clause k h n → Added v g left l k h n old
       go skipped p q = let z : ◌≡◌ {A = ℕ} 0 1 = cc in absurd (omega arith)
@@ -178,7 +178,7 @@ module _ (v g left : ℕ) (l : List ℕ) where
       go formless p q = let z : ◌≡◌ {A = ℕ} 0 1 = cc in absurd (omega arith)
       go (clause k' zs) p q =
           let u = unless_clause (first (clause_tests v g left k' zs)) k h n k' (head_in zs) (length (body_in zs)) q in
-          let kept = kept_right v g left k' zs few-variables few-groups u.0 in
+          let kept = kept_right v g left k' zs few_variables few_groups u.0 in
           record {
             zs = zs;
             line = p ∙ ap (λ (j : ℕ). clause j zs) u.1;

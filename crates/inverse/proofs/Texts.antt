@@ -30,7 +30,7 @@ use Rattle.text_reader.proofs.Whole.{FromText}
 use Rattle.text_writer.specs.ToText.{to_text}
 use Rattle.text_writer.proofs.Texts.{ToText}
 
--- the text of a well_formed book, and back
+-- the text of a well-formed book, and back
 module _ (b : Book) (good : WellFormed b) (short : length (bytes_of b) ≤ most_bytes) where
   from_book : (room : ℕ) → length (bytes_of b) ≤ room → from_text (text_of b) room ≡ answered (bytes_of b)
   unfolding from_text

@@ -6,7 +6,7 @@
 --   within_first                 w is within its limits, and so are the others
 --   all_marked                   where the first unmarked variable is 0, all are marked
 --   clause_goal, clause_old, clause_off, clause_not, clause_new      what a clause adds: a goal, an old mark, not in force, not its whole body, and else
---   one-less                     after a new mark one less is missing
+--   one_less                     after a new mark one less is missing
 --   unbroken_head, unbroken_off, broken_if      whether a clause is a broken goal
 -- Assumes nothing.
 use Prim.Native.Nat.{ℕ, suc, ◌+◌, ◌-◌, ◌≤◌, ◌<◌}

@@ -1,4 +1,4 @@
--- What is given in plain form is taken back: taking the plain form of a well_formed book gives that book.
+-- What is given in plain form is taken back: taking the plain form of a well-formed book gives that book.
 --   length_each        as many numbers with a sign as without
 --   clause_numbers     how many numbers a clause is
 --   number_right       a number within its limits is taken

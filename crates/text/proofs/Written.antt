@@ -6,7 +6,7 @@
 --   clauses_joined           the clauses' lines are one after the other
 --   heading_is, heading_size, heading_length      the `p` line, by its three numbers, and how long it is
 --   text_length              the whole
---   text_most                the text of a well_formed book is at most 420,000 bytes long
+--   text_most                the text of a well-formed book is at most 420,000 bytes long
 -- Assumes nothing.
 use Prim.Native.Nat.{ℕ, zero, suc, ◌+◌, ◌*◌, ◌≤◌}
 use mathlib.Core.Path.{◌≡◌, refl, ap, ◌∙◌}

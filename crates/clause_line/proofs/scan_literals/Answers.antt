@@ -21,60 +21,60 @@ returns-in-None c = let l = c.loop-next in
     record { value = s.0; body_after = s.1 }
 
 -- a 0
-zero-here : (c : In-Zero) → next_literal c.loop-next.t.now ≡ LiteralV.Zero c.in-Zero.next
-zero-here c = sym c.next_literal.ensures ∙ c.in-Zero.is
+zero_here : (c : In-Zero) → next_literal c.loop-next.t.now ≡ LiteralV.Zero c.in-Zero.next
+zero_here c = sym c.next_literal.ensures ∙ c.in-Zero.is
 
 pub slice_bounds-is_blank-count : goal.slice_bounds-is_blank-count
-slice_bounds-is_blank-count c = (literal_zero _ _ (zero-here c)).0
+slice_bounds-is_blank-count c = (literal_zero _ _ (zero_here c)).0
 
 pub slice_bounds-is_blank-start : goal.slice_bounds-is_blank-start
-slice_bounds-is_blank-start c = (literal_zero _ _ (zero-here c)).0
+slice_bounds-is_blank-start c = (literal_zero _ _ (zero_here c)).0
 
 pub returns-then-is_blank : goal.returns-then-is_blank
 returns-then-is_blank c = let l = c.loop-next in
-    let s = scan_zero _ _ l.t.now _ _ _ _ _ _ l.invariant.0 _ (zero-here (goal.at.returns-then-is_blank c).In-Zero) _ c.is_blank.ensures c.if-is_blank.true in
+    let s = scan_zero _ _ l.t.now _ _ _ _ _ _ l.invariant.0 _ (zero_here (goal.at.returns-then-is_blank c).In-Zero) _ c.is_blank.ensures c.if-is_blank.true in
     record { value = s.0; body_after = s.1 }
 
 pub returns-in-Zero : goal.returns-in-Zero
 returns-in-Zero c = let l = c.loop-next in
-    let s = scan_open _ _ l.t.now _ _ _ _ _ _ l.invariant.0 _ (zero-here (goal.at.returns-in-Zero c).In-Zero) _ c.is_blank.ensures c.if-is_blank.false in
+    let s = scan_open _ _ l.t.now _ _ _ _ _ _ l.invariant.0 _ (zero_here (goal.at.returns-in-Zero c).In-Zero) _ c.is_blank.ensures c.if-is_blank.false in
     record { value = s.0; body_after = s.1 }
 
 -- a positive literal
-head-here : (c : Joined-head-eq0)
+head_here : (c : Joined-head-eq0)
     → next_literal c.loop-next.t.now ≡ LiteralV.Head c.in-Head.n c.in-Head.next
-head-here c = sym c.next_literal.ensures ∙ c.in-Head.is
+head_here c = sym c.next_literal.ensures ∙ c.in-Head.is
 
-head-stands : (c : Joined-head-eq0)
+head_stands : (c : Joined-head-eq0)
     → Stands pos c.loop-next.t.now c.in-Head.n c.in-Head.next
-head-stands c = literal_head _ _ _ (head-here c)
+head_stands c = literal_head _ _ _ (head_here c)
 
 pub slice_bounds-t-count : goal.slice_bounds-t-count
-slice_bounds-t-count c = (head-stands c).inside
+slice_bounds-t-count c = (head_stands c).inside
 
 pub slice_bounds-t-start : goal.slice_bounds-t-start
-slice_bounds-t-start c = (head-stands c).inside
+slice_bounds-t-start c = (head_stands c).inside
 
 pub loop-next-smaller-in-Head : goal.loop-next-smaller-in-Head
-loop-next-smaller-in-Head c = let s = head-stands (goal.at.loop-next-smaller-in-Head c).Joined-head-eq0 in part_shorter c.loop-next.t.now _ s.ahead s.inside
+loop-next-smaller-in-Head c = let s = head_stands (goal.at.loop-next-smaller-in-Head c).Joined-head-eq0 in part_shorter c.loop-next.t.now _ s.ahead s.inside
 
 pub loop-next-preserved-in-Head : goal.loop-next-preserved-in-Head
 loop-next-preserved-in-Head c = let l = c.loop-next in
     let j = c.if-head-eq0 in (
-      scan_head _ _ l.t.now _ _ _ _ _ _ l.invariant.0 _ _ (head-here (goal.at.loop-next-preserved-in-Head c).Joined-head-eq0) j.head
+      scan_head _ _ l.t.now _ _ _ _ _ _ l.invariant.0 _ _ (head_here (goal.at.loop-next-preserved-in-Head c).Joined-head-eq0) j.head
           (λ z. elim j.branch [ then-head-eq0 w ↦ w.head-is | else-head-eq0 w ↦ absurd (w.if-head-eq0.false z) ])
           (λ z. elim j.branch [ then-head-eq0 w ↦ absurd (z w.if-head-eq0.true) | else-head-eq0 w ↦ w.head-is ]),
       l.invariant.1,
     )
 
 -- a negative literal
-body-here : (c : In-Body)
+body_here : (c : In-Body)
     → next_literal c.loop-next.t.now ≡ LiteralV.Body c.in-Body.n c.in-Body.next
-body-here c = sym c.next_literal.ensures ∙ c.in-Body.is
+body_here c = sym c.next_literal.ensures ∙ c.in-Body.is
 
-body-stands : (c : In-Body)
+body_stands : (c : In-Body)
     → Stands minus c.loop-next.t.now c.in-Body.n c.in-Body.next
-body-stands c = literal_body _ _ _ (body-here c)
+body_stands c = literal_body _ _ _ (body_here c)
 
 pub insert-count-requires : goal.insert-count-requires
 insert-count-requires c = let l = c.loop-next in (
@@ -84,19 +84,19 @@ insert-count-requires c = let l = c.loop-next in (
 )
 
 pub slice_bounds-t-count-in-Body : goal.slice_bounds-t-count-in-Body
-slice_bounds-t-count-in-Body c = (body-stands (goal.at.slice_bounds-t-count-in-Body c).In-Body).inside
+slice_bounds-t-count-in-Body c = (body_stands (goal.at.slice_bounds-t-count-in-Body c).In-Body).inside
 
 pub slice_bounds-t-start-in-Body : goal.slice_bounds-t-start-in-Body
-slice_bounds-t-start-in-Body c = (body-stands (goal.at.slice_bounds-t-start-in-Body c).In-Body).inside
+slice_bounds-t-start-in-Body c = (body_stands (goal.at.slice_bounds-t-start-in-Body c).In-Body).inside
 
 pub loop-next-smaller : goal.loop-next-smaller
-loop-next-smaller c = let s = body-stands (goal.at.loop-next-smaller c).In-Body in
+loop-next-smaller c = let s = body_stands (goal.at.loop-next-smaller c).In-Body in
     part_shorter c.loop-next.t.now _ s.ahead s.inside
 
 pub loop-next-preserved : goal.loop-next-preserved
 loop-next-preserved c = let l = c.loop-next in
     let i = c.insert-count in
-    (scan_body _ _ l.t.now _ _ _ _ _ _ l.invariant.0 _ _ (body-here (goal.at.loop-next-preserved c).In-Body) i.result i.new.words (i.ensures.value, i.ensures.words_after), search rules)
+    (scan_body _ _ l.t.now _ _ _ _ _ _ l.invariant.0 _ _ (body_here (goal.at.loop-next-preserved c).In-Body) i.result i.new.words (i.ensures.value, i.ensures.words_after), search rules)
 
 pub shape_of-body-in-None : goal.shape_of-body-in-None
 shape_of-body-in-None c = c.loop-next.invariant.1

@@ -8,15 +8,15 @@ use Rattle.clause_line.proofs.Steps.{stepped_skipped, stepped_formless, stepped_
 use Rattle.clause_line.proofs.step_of.Goals as goal
 use Rattle.clause_line.proofs.step_of.Goals.{In-Clause}
 
-clause-here : (c : In-Clause)
+clause_here : (c : In-Clause)
     → start_of c.args.line.now ≡ StartV.Clause c.in-Clause.group c.in-Clause.next
-clause-here c = sym c.start_of.ensures ∙ c.in-Clause.is
+clause_here c = sym c.start_of.ensures ∙ c.in-Clause.is
 
 pub slice_bounds-clause_step-count : goal.slice_bounds-clause_step-count
-slice_bounds-clause_step-count c = (start_clause _ _ _ (clause-here c)).inside
+slice_bounds-clause_step-count c = (start_clause _ _ _ (clause_here c)).inside
 
 pub slice_bounds-clause_step-start : goal.slice_bounds-clause_step-start
-slice_bounds-clause_step-start c = (start_clause _ _ _ (clause-here c)).inside
+slice_bounds-clause_step-start c = (start_clause _ _ _ (clause_here c)).inside
 
 pub returns-in-Skipped : goal.returns-in-Skipped
 returns-in-Skipped c = let a = c.args in
@@ -37,6 +37,6 @@ pub returns-in-Clause : goal.returns-in-Clause
 returns-in-Clause c = let a = c.args in
     let k = c.clause_step in
     let s =
-    stepped_clause a.variables a.groups a.left a.line.now a.body.now _ _ (clause-here (goal.at.returns-in-Clause c).In-Clause) c.requires.0 c.requires.1
+    stepped_clause a.variables a.groups a.left a.line.now a.body.now _ _ (clause_here (goal.at.returns-in-Clause c).In-Clause) c.requires.0 c.requires.1
     k.result k.new.body k.ensures.value k.ensures.body_after in
     record { value = s.0; body_after = s.1 }

@@ -49,13 +49,13 @@ tried : (t : ℕ) (c : After-search t)
     → Same c.args.free c.args.why.now c.search.new.why
 tried t c o s = step_same s c.args.why.now c.close.new.why c.search.new.why c.args.free _ o.0.1.inside o.0.0 c.search.ensures.1
 
-tried-again : (t : ℕ) (c : After-search-in-Nothing t)
+tried_again : (t : ℕ) (c : After-search-in-Nothing t)
     → Passing c.args.groups (Fits c.args.groups (records_of c.args.records.now c.args.count)) c.args.taken c.args.left c.args.free c.args.why.now 0 c.args.n
     (PassedV.Open c.in-Open.free c.in-Open.taken c.in-Open.left c.in-Open.most) c.close.new.why
     → Step c.args.groups (records_of c.args.records.now c.args.count) c.args.held c.in-Open.taken c.in-Open.left c.in-Open.free c.highest-group.result c.bit-b.result c.close.new.why
     → Same c.args.free c.args.why.now c.search.new.why
     → Same c.args.free c.args.why.now c.search-in-Nothing.new.why
-tried-again t c o s k = step_same s c.args.why.now c.search.new.why c.search-in-Nothing.new.why c.args.free _ o.0.1.inside k c.search-in-Nothing.ensures.1
+tried_again t c o s k = step_same s c.args.why.now c.search.new.why c.search-in-Nothing.new.why c.args.free _ o.0.1.inside k c.search-in-Nothing.ensures.1
 
 -- what the trial ruled out
 failed : (t : ℕ) (c : In-Nothing t) → Rules (Fits c.args.groups (records_of c.args.records.now c.args.count)) (c.args.held + c.bit-b.result) c.in-Nothing.c
@@ -238,7 +238,7 @@ shape_of-why-else-c-b-eq0 t c =
     let o = opened t (goal.at.shape_of-why-else-c-b-eq0 t c).In-Open in
     let s = stepped t (goal.at.shape_of-why-else-c-b-eq0 t c).After-bit-b o in
     let k = tried t (goal.at.shape_of-why-else-c-b-eq0 t c).After-search o s in
-    let again = tried-again t (goal.at.shape_of-why-else-c-b-eq0 t c).After-search-in-Nothing o s k in
+    let again = tried_again t (goal.at.shape_of-why-else-c-b-eq0 t c).After-search-in-Nothing o s k in
     again.long
 
 pub returns-else-c-b-eq0 : goal.returns-else-c-b-eq0
@@ -246,5 +246,5 @@ returns-else-c-b-eq0 t c =
     let o = opened t (goal.at.returns-else-c-b-eq0 t c).In-Open in
     let s = stepped t (goal.at.returns-else-c-b-eq0 t c).After-bit-b o in
     let k = tried t (goal.at.returns-else-c-b-eq0 t c).After-search o s in
-    let again = tried-again t (goal.at.returns-else-c-b-eq0 t c).After-search-in-Nothing o s k in
+    let again = tried_again t (goal.at.returns-else-c-b-eq0 t c).After-search-in-Nothing o s k in
     (c.search-in-Nothing.ensures.0, again, omega (arith, c.search-in-Nothing.ensures.2, c.search.ensures.2, c.close.ensures.1))

@@ -32,14 +32,24 @@ fn print_text<W: Write>(
     tell::front(to, out, n)
 }
 
+fn print_into<W: Write>(
+    to: &mut W,
+    book: &[u8],
+    records: &mut [u32],
+    work: &mut [u16],
+    out: &mut [u8; TEXT],
+) -> io::Result<()> {
+    print_text(to, book, records, work, out)
+}
+
 fn print_listing<W: Write>(
     to: &mut W,
     book: &[u8],
     records: &mut [u32],
     work: &mut [u16],
 ) -> io::Result<()> {
-    let mut out = [0u8; 426048];
-    print_text(to, book, records, work, &mut out)
+    let mut out = [0u8; TEXT];
+    print_into(to, book, records, work, &mut out)
 }
 
 // Prints the listing of a book, with room for 4,096 records; or its refusal. After an error a part of it may be printed.

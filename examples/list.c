@@ -1,6 +1,6 @@
 /* Lists the explanations and repairs of Book X, or of the book in the file that is named, and goes on in more room until the listing is complete.
 
-       rt staticlib badolkhup
+       bash tools/build badolkhup
        cc -Iinclude -o target/list examples/list.c target/staticlib/libbadolkhup.a
        target/list [BOOK]
 */

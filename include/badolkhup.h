@@ -1,4 +1,4 @@
-/* badolkhup.h: the calls of the engine, for C and for what can call C. x86-64 Linux. Link target/staticlib/libbadolkhup.a (`rt staticlib badolkhup`).
+/* badolkhup.h: the calls of the engine, for C and for what can call C. x86-64 Linux. Link target/staticlib/libbadolkhup.a (`bash tools/build badolkhup`).
 
    A rule book holds Horn clauses in numbered groups; group 0 is the fixed core, which is always in force. A choice is a set of groups, as a number: group g adds 2^(g-1). An
    explanation is an inconsistent choice from which no group can be taken without becoming consistent, a repair a set of groups whose removal leaves a consistent choice, while giving

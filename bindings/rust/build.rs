@@ -1,4 +1,4 @@
-//! Links libbadolkhup.a, which `rt staticlib badolkhup` writes.
+//! Links libbadolkhup.a, which `bash tools/build badolkhup` writes.
 use std::env;
 use std::path::PathBuf;
 
@@ -14,7 +14,7 @@ fn main() {
     println!("cargo::rerun-if-changed={}", archive.display());
     assert!(
         archive.is_file(),
-        "{} is not there. Build it with `rt staticlib badolkhup` at the root of the repository, \
+        "{} is not there. Build it with `bash tools/build badolkhup` at the root of the repository, \
          or set BADOLKHUP_LIB_DIR to the folder that holds {ARCHIVE}.",
         archive.display()
     );

@@ -11,7 +11,7 @@
 --   clear_none, clear_more               the first words are 0: none of them, and one more
 --   cleared_again, cleared_over          a space that was used, cleared: what stands behind is as it was; its front was used
 -- Assumes nothing.
-use Prim.Native.Nat.{ℕ, zero, suc, ◌+◌, ◌-◌, ◌/◌, ◌%◌, ◌^◌, ◌≤◌, ◌<◌}
+use Prim.Native.Nat.{ℕ, zero, suc, ◌+◌, ◌-◌, ◌/◌, ◌^◌, ◌≤◌, ◌<◌}
 use mathlib.Core.Path.{◌≡◌, refl, sym, ap, ◌∙◌, subst}
 use mathlib.Core.Logic.{◌≢◌, ◌⊎◌, inl, inr}
 use mathlib.Core.List.{List, [], ◌∷◌, ◌++◌}
@@ -31,7 +31,7 @@ use Rattle.answer.proofs.Tests.{first_clear, clash}
 use Rattle.field.specs.Words.{Bytes}
 use Rattle.meaning.specs.Book.{Book}
 use Rattle.meaning.specs.Choice.{digit}
-use Rattle.meaning.proofs.Choices.{digit_of, digit_or, digit_high}
+use Rattle.meaning.proofs.Choices.{digit_or, digit_high}
 use Rattle.book.specs.Bytes.{most_groups}
 use Rattle.book.specs.Reading.{reading}
 use Rattle.book.specs.Check.{numbers_of}

@@ -6,13 +6,12 @@
 --   says_goal                 a contradiction names the lowest broken goal
 --   says_forced               the bytes written are the least closed set
 -- Assumes nothing.
-use Prim.Native.Nat.{ℕ, zero, suc, ◌+◌, ◌≤◌, ◌<◌}
+use Prim.Native.Nat.{ℕ, zero, suc, ◌≤◌, ◌<◌}
 use mathlib.Core.Path.{◌≡◌, refl, sym, ap, ◌∙◌, subst}
 use mathlib.Core.Logic.{◌↔◌, ◌≢◌}
 use mathlib.Core.List.{List, [], ◌∷◌}
 use mathlib.Core.Bool.{Bool, cond}
 use native.Mathlib.Omega.{arith}
-use lib.ListN.{length}
 use lib.Dec.{ltb}
 use borrow.Author.Tests.{lt-ltb, le-ltb}
 use Rattle.answer.specs.Answer.{Answer, answered, refused, and_then, first}
@@ -22,7 +21,7 @@ use Rattle.answer.proofs.Spaces.{laid_refused, laid_answered}
 use Rattle.field.specs.Words.{Bytes}
 use Rattle.meaning.specs.Book.{Book}
 use Rattle.meaning.specs.Consistent.{Consistent}
-use Rattle.meaning.specs.Forced.{Least, marked, lowest, Lowest, forced_in, broken_in}
+use Rattle.meaning.specs.Forced.{Least, marked, Lowest, forced_in, broken_in}
 use Rattle.meaning.proofs.Forced.{forced_in_least}
 use Rattle.meaning.proofs.Deciding.{consistent_in, lowest_is}
 use Rattle.meaning.proofs.Marks.{Heads}

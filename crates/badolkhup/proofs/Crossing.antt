@@ -4,7 +4,7 @@
 --   crosses_refused, -none, -a, -two, -three      what a refusal crosses as, and answers of no value, of one, two, three
 --   back_answered, back_refused      the answer can be told from its numbers: nothing is lost
 -- Assumes nothing.
-use Prim.Native.Nat.{ℕ, zero, suc}
+use Prim.Native.Nat.{ℕ, suc}
 use mathlib.Core.Path.{◌≡◌, refl, sym, ap, ap₂, subst, ◌∙◌}
 use mathlib.Core.List.{List, [], ◌∷◌, ◌++◌}
 use lib.ListN.{length, take, drop}

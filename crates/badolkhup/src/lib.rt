@@ -1,6 +1,7 @@
 // The calls of the engine for C, and for what can call C. include/badolkhup.h says of each what it takes, what it answers and what its spaces hold afterwards.
 // A call here does one thing more than the call that it hands on to: it turns the answer, an enum, into numbers.
 #![tactic(auto)]
+
 ghost use Rattle.std.specs.Prelude.{◌≡◌, [], ◌∷◌, length, ◌-◌, min};
 ghost use Rattle.answer.specs.Answer.{refused};
 ghost use Rattle.answer.specs.Space.{written_is, counted, laid};

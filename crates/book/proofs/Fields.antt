@@ -4,17 +4,15 @@
 --   reading_long, reading_bad, reading_fields  by the header
 -- Assumes nothing.
 use Prim.Native.Nat.{ℕ, zero, suc, ◌+◌, ◌≤◌, ◌<◌}
-use mathlib.Core.Path.{◌≡◌, refl, sym, ap, ◌∙◌}
+use mathlib.Core.Path.{◌≡◌, refl, ap, ◌∙◌}
 use mathlib.Core.List.{List, [], ◌∷◌}
-use mathlib.Core.Bool.{true, false, cond}
 use mathlib.Core.Option.{none, some}
 use native.Mathlib.Omega.{arith}
 use lib.ListN.{length, drop}
 use borrow.Author.Tests.{lt-ltb, le-ltb, eq-eqb, ne_eqb}
-use Rattle.answer.specs.Answer.{Answer, answered, refused, and_then, first, ◌or_else◌, unless}
+use Rattle.answer.specs.Answer.{answered, refused, and_then, first, ◌or_else◌}
 use Rattle.answer.proofs.Answers.{then_by, then_not, unless_none, unless_some}
 use Rattle.field.specs.Field.{tag, size, after}
-use Rattle.meaning.specs.Book.{Clause, Book}
 use Rattle.book.specs.Bytes.{most_bytes, most_clauses}
 use Rattle.book.specs.Reading.{variables_of, groups_of, clause_of, wrong_header, wrong_field, field, ending, following, fields, header, with_clauses, reading}
 use Rattle.book.proofs.Tests.{header_ok}

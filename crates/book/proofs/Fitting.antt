@@ -11,7 +11,7 @@ use native.Mathlib.Omega.{arith}
 use lib.ListN.{length}
 use lib.Dec.{ltb}
 use borrow.Author.Tests.{lt-ltb, le-ltb, ltb-false}
-use Rattle.answer.specs.Answer.{answered, refused, ◌⇒◌, first, unless}
+use Rattle.answer.specs.Answer.{answered, refused, ◌⇒◌, first}
 use Rattle.answer.specs.Space.{fitting}
 use Rattle.answer.proofs.Answers.{unless_none, unless_some, unless_is}
 use Rattle.answer.proofs.Tests.{first_clear}

@@ -3,23 +3,22 @@
 --   fields_back             that is so where they are read as those
 --   Read, reading_is        the same of a whole book
 -- Assumes nothing.
-use Prim.Native.Nat.{ℕ, zero, suc, ◌+◌, ◌-◌, ◌*◌, ◌/◌, ◌%◌, ◌≤◌, ◌<◌}
+use Prim.Native.Nat.{ℕ, zero, suc, ◌+◌, ◌-◌, ◌*◌, ◌/◌, ◌%◌, ◌≤◌}
 use mathlib.Core.Path.{◌≡◌, refl, sym, ap, ◌∙◌}
 use mathlib.Core.List.{List, [], ◌∷◌, ◌++◌}
-use mathlib.Core.Bool.{true}
 use native.Mathlib.Omega.{arith}
 use native.Mathlib.Decide.{dec_le}
 use lib.ListN.{length, get_or, take, drop, length-drop, take-append-drop}
 use lib.Seq.{length-take-le, drop-drop}
-use Rattle.answer.specs.Answer.{Answer, answered, refused, and_then}
+use Rattle.answer.specs.Answer.{answered}
 use Rattle.answer.proofs.Answers.{never, then_is}
-use Rattle.field.specs.Words.{Bytes, words, word_bytes, within}
+use Rattle.field.specs.Words.{Bytes, words, word_bytes}
 use Rattle.field.specs.Field.{tag, len, size, after, field_bytes}
 use Rattle.field.proofs.Words.{byte_at, bytes_drop, bytes_take, high_byte, low_byte, bytes_words, length_words, one_within}
 use Rattle.meaning.specs.Book.{Clause, Book}
 use Rattle.book.specs.Bytes.{most_bytes, most_clauses, GoodClause, GoodClauses, WellFormed, clause_bytes, clauses_bytes, bytes_of}
 use Rattle.book.specs.Reading.{variables_of, groups_of, group_of, head_of, body_part, clause_of, wrong_header, wrong_field, ending, fields, with_clauses, reading}
-use Rattle.book.proofs.Tests.{HeaderOk, header_ok, ClauseOk, FieldOk, field_ok}
+use Rattle.book.proofs.Tests.{HeaderOk, header_ok, ClauseOk, field_ok}
 use Rattle.book.proofs.Fields.{fields_bad, fields_end, fields_clause, reading_long, reading_bad, reading_fields}
 
 -- seven bytes and the rest

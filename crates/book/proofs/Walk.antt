@@ -9,15 +9,14 @@ use Prim.Native.Nat.{ℕ, ◌+◌, ◌-◌, ◌*◌, ◌≤◌, ◌<◌}
 use mathlib.Core.Path.{◌≡◌, refl, sym, ap, ◌∙◌}
 use mathlib.Core.List.{List, [], ◌∷◌, ◌++◌}
 use native.Mathlib.Omega.{arith}
-use lib.ListN.{length, get_or, take, drop}
+use lib.ListN.{length, take, drop}
 use borrow.Author.Tests.{lt-ltb, le-ltb}
-use Rattle.field.specs.Words.{word_at, words, word_bytes}
+use Rattle.field.specs.Words.{words, word_bytes}
 use Rattle.field.specs.Field.{len, size, field_bytes}
 use Rattle.field.proofs.Parts.{part_end}
 use Rattle.field.proofs.Words.{words_bytes, words_two}
 use Rattle.meaning.specs.Book.{Clause, Book}
 use Rattle.book.specs.Bytes.{GoodClause, GoodClauses, WellFormed, clause_bytes, clauses_bytes, bytes_of}
-use Rattle.book.specs.Reading.{head_of, group_of, reading}
 use Rattle.book.specs.Walk.{book_of, IsBook, front_of}
 use Rattle.book.specs.declared.Front.TheVariants as FrontV
 use Rattle.book.proofs.Written.{Starts, starts, header_after}

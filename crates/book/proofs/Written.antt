@@ -5,23 +5,21 @@
 --   fields_written       the clauses are read back
 --   reading_written      the whole book is
 -- Assumes nothing.
-use Prim.Native.Nat.{ℕ, zero, suc, ◌+◌, ◌-◌, ◌*◌, ◌≤◌, ◌<◌}
+use Prim.Native.Nat.{ℕ, zero, suc, ◌+◌, ◌-◌, ◌*◌, ◌≤◌}
 use mathlib.Core.Path.{◌≡◌, refl, sym, ap, ◌∙◌}
 use mathlib.Core.List.{List, [], ◌∷◌, ◌++◌}
-use mathlib.Core.Bool.{true}
 use native.Mathlib.Omega.{arith}
 use lib.ListN.{length, take, drop}
 use lib.Seq.{take-append_seam}
-use borrow.Author.Tests.{leb-true}
-use Rattle.answer.specs.Answer.{answered, and_then}
+use Rattle.answer.specs.Answer.{answered}
 use Rattle.answer.proofs.Answers.{then_by}
-use Rattle.field.specs.Words.{words, word_bytes, within, rising}
+use Rattle.field.specs.Words.{word_bytes}
 use Rattle.field.specs.Field.{tag, len, size, after, field_bytes}
 use Rattle.field.proofs.Words.{two_bytes, words_bytes, length_word_bytes, within_one}
 use Rattle.field.proofs.Fields.{field_tag, field_len, field_fits, field_after}
 use Rattle.meaning.specs.Book.{Clause, Book}
 use Rattle.book.specs.Bytes.{most_bytes, most_variables, most_groups, most_clauses, GoodClause, GoodClauses, WellFormed, clause_bytes, clauses_bytes, bytes_of}
-use Rattle.book.specs.Reading.{variables_of, groups_of, group_of, head_of, body_part, clause_of, wrong_field, fields, with_clauses, reading}
+use Rattle.book.specs.Reading.{variables_of, groups_of, group_of, head_of, body_part, clause_of, wrong_field, fields, reading}
 use Rattle.book.proofs.Tests.{HeaderOk, header_none, ClauseOk, field_none}
 use Rattle.book.proofs.Fields.{fields_end, fields_clause, ending_none, reading_fields}
 

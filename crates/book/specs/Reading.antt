@@ -19,7 +19,7 @@
 --   with_clauses v g cs         the book of those
 --   reading s                  the book that s is, or the refusal
 -- Assumes nothing: these are definitions.
-use Rattle.std.specs.Prelude.{ℕ, zero, suc, ◌+◌, ◌-◌, ◌%◌, List, [], ◌∷◌, Bool, not, cond, length, take, drop, ltb, eqb}
+use Rattle.std.specs.Prelude.{ℕ, zero, suc, ◌+◌, ◌-◌, ◌%◌, List, [], ◌∷◌, not, cond, length, take, drop, ltb, eqb}
 use Rattle.std.proofs.Math.Option.{Option, none, some}
 use Rattle.answer.specs.Answer.{Answer, answered, refused, and_then, Test, ◌⇒◌, first, ◌or_else◌, unless}
 use Rattle.field.specs.Words.{word_at, words, within, rising}

@@ -4,12 +4,12 @@
 --   x_plain       its plain form, a clause to a line
 --   is_bytes, is_plain, is_read, is_taken      computed
 -- Assumes nothing.
-use Prim.Native.Nat.{ℕ, ◌+◌}
+use Prim.Native.Nat.{ℕ}
 use mathlib.Core.Path.{◌≡◌, refl}
-use mathlib.Core.List.{List, [], ◌∷◌, ◌++◌}
+use mathlib.Core.List.{List, [], ◌∷◌}
 use lib.IntN.{ℤ, pos}
 use lib.ListN.{length}
-use Rattle.answer.specs.Answer.{answered, refused, and_then, first, ◌or_else◌, unless}
+use Rattle.answer.specs.Answer.{answered, and_then, first, ◌or_else◌, unless}
 use Rattle.field.specs.Words.{words, word_bytes, within, rising}
 use Rattle.field.specs.Field.{short, field_bytes}
 use Rattle.meaning.specs.Book.{clause_from, Book}

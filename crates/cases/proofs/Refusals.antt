@@ -3,10 +3,10 @@
 --   reading_cases      of books
 --   taking_cases       of plain forms
 -- Assumes nothing.
-use Prim.Native.Nat.{ℕ, ◌+◌}
+use Prim.Native.Nat.{ℕ}
 use mathlib.Core.Path.{◌≡◌, refl}
 use mathlib.Core.List.{List, [], ◌∷◌}
-use lib.IntN.{ℤ, pos}
+use lib.IntN.{pos}
 use Rattle.answer.specs.Answer.{Answer, refused, and_then, first, ◌or_else◌, unless}
 use Rattle.field.specs.Words.{words, within, rising}
 use Rattle.field.specs.Field.{short}

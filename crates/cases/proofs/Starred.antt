@@ -11,7 +11,7 @@
 -- Assumes nothing.
 use Prim.Native.Nat.{ℕ}
 use mathlib.Core.Path.{◌≡◌, refl}
-use mathlib.Core.List.{List, [], ◌∷◌, ◌++◌}
+use mathlib.Core.List.{List, [], ◌∷◌}
 use Rattle.meaning.specs.Book.{clause_from, Book}
 use Rattle.meaning.specs.Choice.{digit, chosen}
 use Rattle.meaning.specs.Consistent.{every}

@@ -8,17 +8,17 @@
 use Prim.Native.Nat.{ℕ}
 use mathlib.Core.Path.{◌≡◌, refl}
 use mathlib.Core.List.{List, [], ◌∷◌}
-use Rattle.answer.specs.Answer.{Answer, answered, and_then, first, unless}
+use Rattle.answer.specs.Answer.{answered, and_then, first, unless}
 use Rattle.field.specs.Words.{within}
 use Rattle.decimal.specs.Digits.{digits_in, line}
-use Rattle.meaning.specs.Book.{Clause, clause_from, Book}
+use Rattle.meaning.specs.Book.{Clause, clause_from}
 use Rattle.book.specs.Reading.{with_clauses}
 use Rattle.text.specs.Lines.{joined, pieces, filled, ends, lines, separates, tokens, same, is_digit, all_digits, digits, value_from, is_minus, is_literal, literal_of, is_zero, is_group}
 use Rattle.text.specs.Forms.{by_form, none, literals, closed, clause_line, counts_line, heading_line, form_of, is_comment, line_of}
 use Rattle.text.specs.Taking.{heads, bodies, each, insert, gather, clauses_at, following, opening_at, taking_text}
 use Rattle.text.specs.Writing.{group_text, body_text, head_text, clause_text, clauses_text, heading_text, text_of}
 use Rattle.cases.proofs.BookX.{x}
-use Rattle.cases.proofs.Refusals.{Row, ◌gives◌at◌, Refused}
+use Rattle.cases.proofs.Refusals.{◌gives◌at◌, Refused}
 
 abbrev pub x_text : List ℕ
 x_text =

@@ -29,7 +29,7 @@ use Rattle.meaning.proofs.Explanations.{fine_exactly, inconsistent_more, explana
 use Rattle.book.specs.Walk.{book_of, IsBook}
 use Rattle.marks.proofs.Walks.{heads}
 use Rattle.rounds.specs.Records.{Record, explains, repairs, allows, allowed}
-use Rattle.rounds.specs.Rounds.{seed, found, complete, Monotone}
+use Rattle.rounds.specs.Rounds.{seed, found, Monotone}
 use Rattle.rounds.specs.Right.{Fine, Right, AllRight, IsSeed, Yields, Grows}
 use Rattle.rounds.proofs.Digits.{none_inside, no_group, apart_inside, back_lt}
 use Rattle.rounds.proofs.Seeds.{explains_allows, repairs_allows, allowed_at, allowed_all, seed_at, complete_none}

@@ -11,7 +11,7 @@
 --   next_apart, next_kept, next_again, next_falls      the pass, by the weight of its group
 --   kept_after                the working space after one pass and another
 -- Assumes nothing.
-use Prim.Native.Nat.{ℕ, zero, suc, ◌+◌, ◌-◌, ◌*◌, ◌/◌, ◌%◌, ◌^◌, ◌≤◌, ◌<◌}
+use Prim.Native.Nat.{ℕ, zero, suc, ◌+◌, ◌-◌, ◌*◌, ◌%◌, ◌^◌, ◌≤◌, ◌<◌}
 use mathlib.Core.Path.{◌≡◌, refl, sym, ap, ◌∙◌, subst}
 use mathlib.Core.Logic.{◌⊎◌, inl, inr, ◌≢◌}
 use mathlib.Core.List.{List, [], ◌∷◌}
@@ -21,12 +21,12 @@ use native.Mathlib.Omega.{arith}
 use native.Mathlib.Decide.{ℕ_discrete}
 use lib.Dec.{eqb, leb}
 use lib.Pow.{pow_pos}
-use borrow.Author.Tests.{eq-eqb, ne_eqb, le-leb, lt-leb}
+use borrow.Author.Tests.{eq-eqb, le-leb, lt-leb}
 use Rattle.answer.proofs.Tests.{and_both}
 use Rattle.meaning.specs.Book.{Book}
 use Rattle.meaning.specs.Choice.{digit, Apart}
 use Rattle.meaning.specs.Forced.{inconsistent}
-use Rattle.meaning.proofs.Choices.{digit_of, digit_lt, digit_high, digit_none}
+use Rattle.meaning.proofs.Choices.{digit_lt, digit_high, digit_none}
 use Rattle.meaning.proofs.Explanations.{inconsistent_more}
 use Rattle.rounds.specs.Rounds.{smallest, Monotone}
 use Rattle.rounds.specs.Insertion.{Stage, Breaks}

@@ -4,15 +4,15 @@
 --   length_field             how many bytes it is
 --   field_tag, field_len, field_length, field_fits, field_after      what is found where a field was written, with `rest` after it
 -- Assumes nothing.
-use Prim.Native.Nat.{ℕ, ◌+◌, ◌/◌, ◌%◌, ◌≤◌, ◌<◌}
-use mathlib.Core.Path.{◌≡◌, refl, ap, ◌∙◌}
+use Prim.Native.Nat.{ℕ, ◌+◌, ◌/◌, ◌%◌, ◌≤◌}
+use mathlib.Core.Path.{◌≡◌, refl, ◌∙◌}
 use mathlib.Core.List.{List, [], ◌∷◌, ◌++◌}
 use mathlib.Core.Bool.{Bool, true, false, ◌||◌}
 use native.Mathlib.Omega.{arith}
-use lib.ListN.{length, take, length-append}
-use lib.Seq.{drop-append_seam, take_at}
+use lib.ListN.{length, length-append}
+use lib.Seq.{drop-append_seam}
 use lib.Dec.{ltb}
-use borrow.Author.Tests.{lt-ltb, le-ltb, ltb-false}
+use borrow.Author.Tests.{le-ltb, ltb-false}
 use Rattle.field.specs.Words.{word_bytes}
 use Rattle.field.specs.Field.{tag, len, size, short, after, field_bytes}
 use Rattle.field.proofs.Parts.{drop_three}

@@ -8,8 +8,8 @@
 --   partly_swept             a sweep adds marks of forced variables only
 --   settling_end             a sweep that adds no mark leaves the forced variables
 -- Assumes nothing.
-use Prim.Native.Nat.{ℕ, zero, suc, ◌+◌, ◌-◌, ◌≤◌, ◌<◌}
-use mathlib.Core.Path.{◌≡◌, refl, sym, ap, ◌∙◌, subst}
+use Prim.Native.Nat.{ℕ, ◌+◌, ◌-◌, ◌≤◌, ◌<◌}
+use mathlib.Core.Path.{◌≡◌, sym, ap, ◌∙◌, subst}
 use mathlib.Core.Logic.{◌⊎◌, inl, inr}
 use mathlib.Core.Bool.{Bool, true, false, cond}
 use mathlib.Core.List.Memᴰ
@@ -24,7 +24,7 @@ use Rattle.meaning.specs.Marks.{Partly, unmarked}
 use Rattle.meaning.proofs.Marks.{Heads, AllQuiet, length_mark, pass_none, pass_first, pass_or}
 use Rattle.meaning.proofs.Deciding.{broken_is, lowest_empty, lowest_first}
 use Rattle.meaning.proofs.Forced.{partly_pass, forced_one}
-use Rattle.book.specs.Bytes.{GoodClause, GoodClauses, WellFormed}
+use Rattle.book.specs.Bytes.{GoodClauses}
 use Rattle.book.specs.Walk.{book_of, IsBook, front_of}
 use Rattle.book.specs.declared.Front.TheVariants as FrontV
 use Rattle.book.proofs.Walk.{well_formed, Walk, Turn, walk_over}

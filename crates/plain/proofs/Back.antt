@@ -9,20 +9,20 @@
 use Prim.Native.Nat.{ℕ, zero, suc, ◌+◌, ◌-◌, ◌≤◌, ◌<◌}
 use mathlib.Core.Path.{◌≡◌, refl, sym, ap, ◌∙◌}
 use mathlib.Core.List.{List, [], ◌∷◌, ◌++◌}
-use mathlib.Core.Bool.{Bool, true, false, not, ◌&&◌, false≢true}
+use mathlib.Core.Bool.{true, not, false≢true}
 use native.Mathlib.Omega.{arith}
 use lib.IntN.{ℤ, pos, negsuc, nat_abs}
 use lib.ListN.{length, drop}
 use lib.Dec.{leb}
 use borrow.Author.Tests.{leb-true, leb-false, ltb-false, eqb-false, not-false}
-use Rattle.answer.specs.Answer.{Answer, answered, refused, and_then, ◌⇒◌, first, unless}
+use Rattle.answer.specs.Answer.{Answer, answered, refused, and_then, ◌⇒◌, first}
 use Rattle.answer.proofs.Answers.{never, then_is, unless_is}
 use Rattle.answer.proofs.Tests.{first_clear}
 use Rattle.field.specs.Words.{within, rising}
 use Rattle.answer.proofs.Tests.{and_left, and_right}
 use Rattle.field.proofs.Words.{one_within, cons_within, cons_rising}
 use Rattle.meaning.specs.Book.{Clause, Book}
-use Rattle.book.specs.Bytes.{most_variables, most_groups, most_clauses, most_body, GoodClause, GoodClauses, WellFormed}
+use Rattle.book.specs.Bytes.{most_variables, most_groups, most_clauses, most_body, GoodClauses, WellFormed}
 use Rattle.book.specs.Reading.{with_clauses}
 use Rattle.plain.specs.Plain.{each, literals, head_literal, plain_clause, plain_clauses, plain_of}
 use Rattle.plain.specs.Taking.{between, number_at, Named, groups_at, head_tests, body_tests, Ended, literals_at, starting, clauses_at, after_variables, taking}

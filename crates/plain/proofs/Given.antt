@@ -6,24 +6,22 @@
 --   Fine, body_taken   a clause's literals are taken back
 --   taking_given       the whole book is
 -- Assumes nothing.
-use Prim.Native.Nat.{ℕ, zero, suc, ◌+◌, ◌≤◌, ◌<◌}
-use mathlib.Core.Path.{◌≡◌, refl, sym, ap, ◌∙◌}
+use Prim.Native.Nat.{ℕ, zero, suc, ◌+◌, ◌≤◌}
+use mathlib.Core.Path.{◌≡◌, refl, ap, ◌∙◌}
 use mathlib.Core.List.{List, [], ◌∷◌, ◌++◌, append_assoc}
-use mathlib.Core.Bool.{Bool, true, false, not, ◌&&◌, false≢true}
+use mathlib.Core.Bool.{true}
 use native.Mathlib.Omega.{arith}
-use lib.IntN.{ℤ, pos, negsuc, nat_abs}
+use lib.IntN.{ℤ, pos, negsuc}
 use lib.ListN.{length, length-append}
-use lib.Dec.{ltb, leb}
-use borrow.Author.Tests.{le-ltb, lt-ltb, le-leb, lt-leb, leb-true, ltb-true, eq-eqb, ne_eqb}
+use borrow.Author.Tests.{le-ltb, le-leb, lt-leb, ne_eqb}
 use Rattle.answer.specs.Answer.{Answer, answered, and_then, first, unless}
 use Rattle.answer.proofs.Answers.{then_by, unless_none}
 use Rattle.field.specs.Words.{within, rising}
 use Rattle.field.proofs.Words.{within_one, within_cons, rising_cons}
 use Rattle.meaning.specs.Book.{Clause, Book}
 use Rattle.book.specs.Bytes.{most_variables, most_groups, most_clauses, most_body, GoodClause, GoodClauses, WellFormed}
-use Rattle.book.specs.Reading.{with_clauses}
 use Rattle.plain.specs.Plain.{minus, each, literals, head_literal, plain_clause, plain_clauses, plain_of}
-use Rattle.plain.specs.Taking.{between, number_at, Named, named, groups_at, head_tests, body_tests, Ended, ended, literals_at, starting, clauses_at, after_variables, taking}
+use Rattle.plain.specs.Taking.{between, number_at, named, groups_at, body_tests, Ended, ended, literals_at, starting, clauses_at, after_variables, taking}
 
 pub length_each : (sign : ℕ → ℤ) (ns : List ℕ) → length (each sign ns) ≡ length ns
 unfolding each

@@ -19,7 +19,7 @@
 --   inner w                what is between the first byte and the last
 --   is_group w              a number in braces
 -- Assumes nothing: these are definitions.
-use Rattle.std.specs.Prelude.{ℕ, ◌+◌, ◌-◌, ◌*◌, List, [], ◌∷◌, Bool, true, false, not, ◌&&◌, ◌||◌, cond, ℤ, pos, length, get_or, take, drop, ltb, leb, eqb}
+use Rattle.std.specs.Prelude.{ℕ, ◌+◌, ◌-◌, ◌*◌, List, [], ◌∷◌, Bool, true, false, ◌&&◌, ◌||◌, cond, ℤ, pos, length, get_or, take, drop, ltb, leb, eqb}
 use Rattle.plain.specs.Plain.{minus}
 
 abbrev pub line_feed : ℕ

@@ -1,5 +1,4 @@
 -- What `admit::lacking` leaves open, from the laws.
-use Prim.Native.Nat.{◌-◌}
 use mathlib.Core.Path.{refl, sym, ◌∙◌}
 use native.Mathlib.Omega.{arith}
 use Rattle.admit.proofs.Admits.{lack_here, lack_next, lack_none}

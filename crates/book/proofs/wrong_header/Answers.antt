@@ -32,9 +32,9 @@ bounds-rest-0 c = omega (arith, (ok (goal.at.bounds-rest-0 c).Else-number-ne0).f
 pub returns-then-rest-ne1 : goal.returns-then-rest-ne1
 unfolding wrong_header first ◌or_else◌
 returns-then-rest-ne1 c = simp (
-      start (goal.at.returns-then-rest-ne1 c).Else-number-ne0,
-      ne_eqb _ _ c.if-rest-ne1.true,
-    )
+  start (goal.at.returns-then-rest-ne1 c).Else-number-ne0,
+  ne_eqb _ _ c.if-rest-ne1.true,
+)
 
 pub word_at-requires : goal.word_at-requires
 word_at-requires c = omega (arith, (ok (goal.at.word_at-requires c).Else-number-ne0).fits)
@@ -42,11 +42,11 @@ word_at-requires c = omega (arith, (ok (goal.at.word_at-requires c).Else-number-
 pub returns-then-word_at-ne4 : goal.returns-then-word_at-ne4
 unfolding wrong_header first ◌or_else◌
 returns-then-word_at-ne4 c = simp (
-      ← c.word_at.ensures,
-      start (goal.at.returns-then-word_at-ne4 c).Else-number-ne0,
-      eq-eqb _ _ c.if-rest-ne1.false,
-      ne_eqb _ _ c.if-word_at-ne4.true,
-    )
+  ← c.word_at.ensures,
+  start (goal.at.returns-then-word_at-ne4 c).Else-number-ne0,
+  eq-eqb _ _ c.if-rest-ne1.false,
+  ne_eqb _ _ c.if-word_at-ne4.true,
+)
 
 pub word_at-variables-requires : goal.word_at-variables-requires
 word_at-variables-requires c = let four = eq (c) in omega (arith, (ok (goal.at.word_at-variables-requires c).Else-number-ne0).fits)
@@ -54,25 +54,25 @@ word_at-variables-requires c = let four = eq (c) in omega (arith, (ok (goal.at.w
 pub returns-then-variables-lt1 : goal.returns-then-variables-lt1
 unfolding wrong_header first ◌or_else◌
 returns-then-variables-lt1 c = simp (
-      ← c.word_at-variables.ensures,
-      ← c.word_at.ensures,
-      start (goal.at.returns-then-variables-lt1 c).Else-number-ne0,
-      eq-eqb _ _ c.if-rest-ne1.false,
-      eq-eqb _ _ c.if-word_at-ne4.false,
-      lt-ltb _ _ c.if-variables-lt1.true,
-    )
+  ← c.word_at-variables.ensures,
+  ← c.word_at.ensures,
+  start (goal.at.returns-then-variables-lt1 c).Else-number-ne0,
+  eq-eqb _ _ c.if-rest-ne1.false,
+  eq-eqb _ _ c.if-word_at-ne4.false,
+  lt-ltb _ _ c.if-variables-lt1.true,
+)
 
 pub returns-then-variables-gt-MOST_VARIABLES : goal.returns-then-variables-gt-MOST_VARIABLES
 unfolding wrong_header first ◌or_else◌
 returns-then-variables-gt-MOST_VARIABLES c = simp (
-      ← c.word_at-variables.ensures,
-      ← c.word_at.ensures,
-      start (goal.at.returns-then-variables-gt-MOST_VARIABLES c).Else-number-ne0,
-      eq-eqb _ _ c.if-rest-ne1.false,
-      eq-eqb _ _ c.if-word_at-ne4.false,
-      le-ltb _ _ c.if-variables-lt1.false,
-      lt-ltb _ _ c.if-variables-gt-MOST_VARIABLES.true,
-    )
+  ← c.word_at-variables.ensures,
+  ← c.word_at.ensures,
+  start (goal.at.returns-then-variables-gt-MOST_VARIABLES c).Else-number-ne0,
+  eq-eqb _ _ c.if-rest-ne1.false,
+  eq-eqb _ _ c.if-word_at-ne4.false,
+  le-ltb _ _ c.if-variables-lt1.false,
+  lt-ltb _ _ c.if-variables-gt-MOST_VARIABLES.true,
+)
 
 pub word_at-requires-2 : goal.word_at-requires-2
 word_at-requires-2 c = let four = eq (goal.at.word_at-requires-2 c).Else-word_at-ne4 in omega (arith, (ok (goal.at.word_at-requires-2 c).Else-number-ne0).fits)
@@ -80,27 +80,27 @@ word_at-requires-2 c = let four = eq (goal.at.word_at-requires-2 c).Else-word_at
 pub returns-then-word_at-gt-MOST_GROUPS : goal.returns-then-word_at-gt-MOST_GROUPS
 unfolding wrong_header first ◌or_else◌
 returns-then-word_at-gt-MOST_GROUPS c = simp (
-      ← c.word_at-2.ensures,
-      ← c.word_at-variables.ensures,
-      ← c.word_at.ensures,
-      start (goal.at.returns-then-word_at-gt-MOST_GROUPS c).Else-number-ne0,
-      eq-eqb _ _ c.if-rest-ne1.false,
-      eq-eqb _ _ c.if-word_at-ne4.false,
-      le-ltb _ _ c.if-variables-lt1.false,
-      le-ltb _ _ c.if-variables-gt-MOST_VARIABLES.false,
-      lt-ltb _ _ c.if-word_at-gt-MOST_GROUPS.true,
-    )
+  ← c.word_at-2.ensures,
+  ← c.word_at-variables.ensures,
+  ← c.word_at.ensures,
+  start (goal.at.returns-then-word_at-gt-MOST_GROUPS c).Else-number-ne0,
+  eq-eqb _ _ c.if-rest-ne1.false,
+  eq-eqb _ _ c.if-word_at-ne4.false,
+  le-ltb _ _ c.if-variables-lt1.false,
+  le-ltb _ _ c.if-variables-gt-MOST_VARIABLES.false,
+  lt-ltb _ _ c.if-word_at-gt-MOST_GROUPS.true,
+)
 
 pub returns : goal.returns
 unfolding wrong_header first ◌or_else◌
 returns c = simp (
-      ← c.word_at-2.ensures,
-      ← c.word_at-variables.ensures,
-      ← c.word_at.ensures,
-      start (goal.at.returns c).Else-number-ne0,
-      eq-eqb _ _ c.if-rest-ne1.false,
-      eq-eqb _ _ c.if-word_at-ne4.false,
-      le-ltb _ _ c.if-variables-lt1.false,
-      le-ltb _ _ c.if-variables-gt-MOST_VARIABLES.false,
-      le-ltb _ _ c.if-word_at-gt-MOST_GROUPS.false,
-    )
+  ← c.word_at-2.ensures,
+  ← c.word_at-variables.ensures,
+  ← c.word_at.ensures,
+  start (goal.at.returns c).Else-number-ne0,
+  eq-eqb _ _ c.if-rest-ne1.false,
+  eq-eqb _ _ c.if-word_at-ne4.false,
+  le-ltb _ _ c.if-variables-lt1.false,
+  le-ltb _ _ c.if-variables-gt-MOST_VARIABLES.false,
+  le-ltb _ _ c.if-word_at-gt-MOST_GROUPS.false,
+)

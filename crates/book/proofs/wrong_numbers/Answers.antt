@@ -13,18 +13,18 @@ use Rattle.book.proofs.wrong_numbers.Goals.{After-is_rising-rises}
 pub returns-then-groups-word_at : goal.returns-then-groups-word_at
 unfolding first
 returns-then-groups-word_at c = simp (
-      ← c.word_at.ensures,
-      lt-ltb _ _ c.if-groups-word_at.true,
-    )
+  ← c.word_at.ensures,
+  lt-ltb _ _ c.if-groups-word_at.true,
+)
 
 pub returns-then-variables-word_at : goal.returns-then-variables-word_at
 unfolding first
 returns-then-variables-word_at c = simp (
-      ← c.word_at.ensures,
-      ← c.word_at-2.ensures,
-      le-ltb _ _ c.if-groups-word_at.false,
-      lt-ltb _ _ c.if-variables-word_at.true,
-    )
+  ← c.word_at.ensures,
+  ← c.word_at-2.ensures,
+  le-ltb _ _ c.if-groups-word_at.false,
+  lt-ltb _ _ c.if-variables-word_at.true,
+)
 
 pub slice_bounds-body-count : goal.slice_bounds-body-count
 slice_bounds-body-count c = omega (arith, c.size_of-end.ensures)
@@ -57,14 +57,14 @@ returns-then-not-inside c = simp (decided (goal.at.returns-then-not-inside c).Af
 
 pub returns-then-not-rises : goal.returns-then-not-rises
 returns-then-not-rises c = simp (
-      decided (goal.at.returns-then-not-rises c).After-is_rising-rises,
-      c.if-not-inside.false,
-      c.if-not-rises.true,
-    )
+  decided (goal.at.returns-then-not-rises c).After-is_rising-rises,
+  c.if-not-inside.false,
+  c.if-not-rises.true,
+)
 
 pub returns : goal.returns
 returns c = simp (
-      decided (goal.at.returns c).After-is_rising-rises,
-      c.if-not-inside.false,
-      c.if-not-rises.false,
-    )
+  decided (goal.at.returns c).After-is_rising-rises,
+  c.if-not-inside.false,
+  c.if-not-rises.false,
+)

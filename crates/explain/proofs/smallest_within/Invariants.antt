@@ -1,6 +1,5 @@
 -- `explain::smallest_within` meets its contract. The loop's invariant is `Inserting`, of `Passes.antt`, with a working space that is ready; the level falls.
 -- Assumes nothing.
-use Prim.Native.Nat.{◌-◌}
 use Rattle.book.specs.Walk.{book_of}
 use Rattle.table.specs.Table.{Kept}
 use Rattle.explain.proofs.Passes.{Inserting}

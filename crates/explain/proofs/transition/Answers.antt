@@ -1,5 +1,4 @@
 -- What `explain::transition` leaves open, from the laws.
-use Prim.Native.Nat.{◌-◌}
 use mathlib.Core.Path.{sym, ◌∙◌}
 use native.Mathlib.Omega.{arith}
 use Rattle.explain.proofs.Passes.{reach_start, reach_none, reach_here, reach_out, reach_low}

@@ -1,5 +1,4 @@
 -- What `field::all_within` leaves open, from the laws.
-use Prim.Native.Nat.{◌-◌}
 use mathlib.Core.Path.{refl, sym, ◌∙◌}
 use Rattle.field.proofs.Parts.{part_shorter}
 use Rattle.field.proofs.Words.{within_low, within_high, within_next, within_none}

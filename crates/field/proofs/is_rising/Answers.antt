@@ -1,5 +1,4 @@
 -- What `field::is_rising` leaves open, from the laws.
-use Prim.Native.Nat.{◌-◌}
 use mathlib.Core.Path.{refl, sym, ◌∙◌}
 use Rattle.field.proofs.Parts.{part_shorter}
 use Rattle.field.proofs.Words.{rising_not, rising_next, rising_none}

@@ -1,6 +1,5 @@
 -- `field::is_rising` meets its contract. The loop's invariant: what is left of the part decides, from above the last number.
 -- Assumes nothing.
-use Prim.Native.Nat.{◌-◌}
 use mathlib.Core.Path.{◌≡◌}
 use lib.ListN.{length}
 use Rattle.field.specs.Words.{words, rising}

@@ -1,6 +1,5 @@
 -- `levels::body_level` meets its contract. The loop's invariant: what is left of the part decides, with the greatest level so far.
 -- Assumes nothing.
-use Prim.Native.Nat.{◌-◌}
 use mathlib.Core.Path.{◌≡◌}
 use mathlib.Core.Bool.{true}
 use lib.ListN.{length}

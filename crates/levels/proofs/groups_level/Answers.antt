@@ -1,7 +1,6 @@
 -- What `levels::groups_level` leaves open, from the laws.
 use Prim.Native.Nat.{max}
 use mathlib.Core.Path.{◌≡◌, refl, sym, ◌∙◌}
-use mathlib.Core.Bool.{true}
 use native.Mathlib.Omega.{arith}
 use Rattle.field.proofs.Parts.{part_shorter}
 use Rattle.marks.proofs.Tests.{within_first}

@@ -1,6 +1,5 @@
 -- `levels::is_held` meets its contract. The loop's invariant: what is left of the part decides.
 -- Assumes nothing.
-use Prim.Native.Nat.{◌-◌}
 use mathlib.Core.Path.{◌≡◌}
 use mathlib.Core.Bool.{true}
 use lib.ListN.{length}

@@ -17,6 +17,6 @@ returns c = c.is_held.ensures
     ∙ stands_held _ _ _ _
     (sym c.in_force.ensures ∙ c.if-not-in_force.false)
     (elim c.if-head-gt0.branch [
-      then-head-gt0+else-grant-bound w ↦ head_above _ _ _ w.if-head-gt0.true c.requires.1 (omega (arith, w.if-grant-bound.false, w.grant.ensures))
+      | then-head-gt0+else-grant-bound w ↦ head_above _ _ _ w.if-head-gt0.true c.requires.1 (omega (arith, w.if-grant-bound.false, w.grant.ensures))
       | else-head-gt0 w ↦ head_none _ _ _ w.if-head-gt0.false
     ])

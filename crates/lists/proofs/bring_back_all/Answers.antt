@@ -1,5 +1,4 @@
 -- What `lists::bring_back_all` leaves open, from the laws.
-use mathlib.Core.Bool.{true}
 use native.Mathlib.Omega.{arith}
 use Rattle.field.proofs.Parts.{part_shorter}
 use Rattle.marks.proofs.Tests.{within_first}

@@ -1,5 +1,4 @@
 -- What `lists::put_all` leaves open, from the laws.
-use Prim.Native.Nat.{◌-◌}
 use native.Mathlib.Omega.{arith}
 use Rattle.lists.proofs.Stores.{aside_none, aside_set}
 use Rattle.lists.proofs.put_all.Goals as goal

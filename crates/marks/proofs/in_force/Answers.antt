@@ -1,7 +1,5 @@
 -- What `marks::in_force` leaves open, from the laws.
-use Prim.Native.Nat.{◌-◌}
 use mathlib.Core.Path.{refl, sym, ◌∙◌}
-use mathlib.Core.Bool.{true}
 use native.Mathlib.Omega.{arith}
 use Rattle.field.proofs.Parts.{part_shorter}
 use Rattle.meaning.specs.Choice.{chosen}

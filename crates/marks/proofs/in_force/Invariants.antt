@@ -1,6 +1,5 @@
 -- `marks::in_force` meets its contract. The loop's invariant: what is left of the part decides.
 -- Assumes nothing.
-use Prim.Native.Nat.{◌-◌}
 use mathlib.Core.Path.{◌≡◌}
 use mathlib.Core.Bool.{true}
 use lib.ListN.{length}

@@ -26,6 +26,6 @@ bounds-marks-h-2 c = omega (arith, c.requires.1, c.if-head-eq0.false)
 
 pub returns : goal.returns
 returns c = let h = c.if-head-eq0.false in (
-      clause_new _ _ _ _ _ h (sym c.in_force.ensures ∙ c.if-not-in_force.false) (all_marked _ _ _ c.requires.2 (sym c.first_unmarked-w.ensures ∙ c.if-w-ne0.false)),
-      one_less _ _ (omega (arith, c.requires.1, h)) c.if-marks-h-eq1.false,
-    )
+  clause_new _ _ _ _ _ h (sym c.in_force.ensures ∙ c.if-not-in_force.false) (all_marked _ _ _ c.requires.2 (sym c.first_unmarked-w.ensures ∙ c.if-w-ne0.false)),
+  one_less _ _ (omega (arith, c.requires.1, h)) c.if-marks-h-eq1.false,
+)

@@ -1,6 +1,6 @@
 -- `path::gather` meets its contract. What the groups that are not in `rest` rest on is gathered.
 -- Assumes nothing.
-use Prim.Native.Nat.{◌-◌, ◌^◌, ◌<◌}
+use Prim.Native.Nat.{◌^◌, ◌<◌}
 use Rattle.path.proofs.Pressing.{Gathering}
 use Rattle.path.proofs.gather.Given as goal
 

@@ -1,6 +1,5 @@
 -- What `queue::holding_variable` leaves open, from the laws.
 use Prim.Native.Nat.{◌≤◌}
-use mathlib.Core.Bool.{true}
 use native.Mathlib.Omega.{arith}
 use lib.ListN.{length}
 use Rattle.field.proofs.Parts.{part_shorter}

@@ -22,7 +22,7 @@ returns-then-level-eq0 c = λ e.
     let p = c.requires in
     confirmed _ _ _ _ _ p.1 (heads _ p.0.book) (front_levels _ _ _ p.0 _ _ _ p.2) (omega (arith, c.if-level-gt-NEVER.false))
     (elim c.if-level-lt-NEVER.branch [
-      then-level-lt-NEVER+else-not-breaks w ↦ inr (w.breaks.ensures w.if-not-breaks.false)
+      | then-level-lt-NEVER+else-not-breaks w ↦ inr (w.breaks.ensures w.if-not-breaks.false)
       | else-level-lt-NEVER w ↦ inl (omega (arith, w.if-level-lt-NEVER.false, c.if-level-gt-NEVER.false))
     ])
     (inl c.if-level-eq0.true)
@@ -43,7 +43,7 @@ returns c = λ e.
     let p = c.requires in
     confirmed _ _ _ _ _ p.1 (heads _ p.0.book) (front_levels _ _ _ p.0 _ _ _ p.2) (omega (arith, c.if-level-gt-NEVER.false))
     (elim c.if-level-lt-NEVER.branch [
-      then-level-lt-NEVER+else-not-breaks w ↦ inr (w.breaks.ensures w.if-not-breaks.false)
+      | then-level-lt-NEVER+else-not-breaks w ↦ inr (w.breaks.ensures w.if-not-breaks.false)
       | else-level-lt-NEVER w ↦ inl (omega (arith, w.if-level-lt-NEVER.false, c.if-level-gt-NEVER.false))
     ])
     (inr (closed_for _ _ _ _ _ _ c.choice_below-choice.ensures c.is_closed.ensures e))

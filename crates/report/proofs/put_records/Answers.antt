@@ -1,5 +1,4 @@
 -- What `report::put_records` leaves open, from the laws.
-use Prim.Native.Nat.{◌-◌}
 use mathlib.Core.Path.{◌≡◌, sym, ap}
 use native.Mathlib.Omega.{arith}
 use Rattle.answer.proofs.Spaces.{wrote_none, wrote_append, wrote_length}

@@ -15,7 +15,6 @@ use Rattle.closing.specs.declared.Passed.TheVariants as PassedV
 use Rattle.seek.proofs.+search.Goals as goal
 use Rattle.seek.proofs.+search.Goals.{After-bit-b, After-search, After-search-in-Nothing, In-Nothing, In-Open, In-Shut}
 
-
 -- what closing decided, or ruled out
 opened : (t : ℕ) (c : In-Open t)
     → Passing c.args.groups (Fits c.args.groups (records_of c.args.records.now c.args.count)) c.args.taken c.args.left c.args.free c.args.why.now 0 c.args.n
@@ -82,12 +81,11 @@ shape_of-why-then-free-eq0 t c =
 
 pub returns-then-free-eq0 : goal.returns-then-free-eq0
 returns-then-free-eq0 t c =
-    let o = opened t (goal.at.returns-then-free-eq0 t c).In-Open in
-    (
-  subst (Seeks (Fits c.args.groups (records_of c.args.records.now c.args.count)) c.args.held) (sym c.leaf.ensures) (leaf_seeks c.args.groups _ _ _ _ _ _ o.0.1.parts (o.0.1.reasons c.args.held c.requires.4) c.if-free-eq0.true),
-  o.0.0,
-  c.close.ensures.1,
-)
+    let o = opened t (goal.at.returns-then-free-eq0 t c).In-Open in (
+      subst (Seeks (Fits c.args.groups (records_of c.args.records.now c.args.count)) c.args.held) (sym c.leaf.ensures) (leaf_seeks c.args.groups _ _ _ _ _ _ o.0.1.parts (o.0.1.reasons c.args.held c.requires.4) c.if-free-eq0.true),
+      o.0.0,
+      c.close.ensures.1,
+    )
 
 pub highest-group-requires : goal.highest-group-requires
 highest-group-requires t c =
@@ -226,12 +224,11 @@ pub returns-in-At : goal.returns-in-At
 returns-in-At t c =
     let o = opened t (goal.at.returns-in-At t c).In-Open in
     let s = stepped t (goal.at.returns-in-At t c).After-bit-b o in
-    let k = tried t (goal.at.returns-in-At t c).After-search o s in
-    (
-  step_found s _ (subst (λ (r : Sought). Seeks (Fits c.args.groups (records_of c.args.records.now c.args.count)) (c.args.held + c.bit-b.result) r) c.in-At.is c.search.ensures.0),
-  k,
-  omega (arith, c.search.ensures.2, c.close.ensures.1),
-)
+    let k = tried t (goal.at.returns-in-At t c).After-search o s in (
+      step_found s _ (subst (λ (r : Sought). Seeks (Fits c.args.groups (records_of c.args.records.now c.args.count)) (c.args.held + c.bit-b.result) r) c.in-At.is c.search.ensures.0),
+      k,
+      omega (arith, c.search.ensures.2, c.close.ensures.1),
+    )
 
 pub shape_of-list-else-c-b-eq0 : goal.shape_of-list-else-c-b-eq0
 shape_of-list-else-c-b-eq0 t c = omega (arith, c.search-in-Nothing.ensures.2, c.search.ensures.2, c.close.ensures.1)

@@ -1,5 +1,4 @@
 -- What `seek::lay` leaves open, from the laws.
-use Prim.Native.Nat.{◌-◌}
 use mathlib.Core.Path.{refl, ◌∙◌}
 use native.Mathlib.Omega.{arith}
 use Rattle.seek.proofs.Below.{along_more}

@@ -5,7 +5,6 @@ use native.Mathlib.Omega.{arith}
 use Rattle.meaning.specs.Choice.{digit}
 use borrow.Author.Tests.{eqb-true, eqb-false}
 use Rattle.seek.proofs.Below.{reason_in, reason_out}
-use Rattle.seek.specs.Paths.{above}
 use Rattle.meaning.proofs.Choices.{digit_lt}
 use Rattle.seek.proofs.reason.Goals as goal
 

@@ -1,5 +1,5 @@
 -- What `seek::seek_below` leaves open, from the laws.
-use Prim.Native.Nat.{suc, ◌+◌, ◌-◌}
+use Prim.Native.Nat.{suc, ◌+◌}
 use mathlib.Core.Path.{◌≡◌, refl, sym, ◌∙◌, subst}
 use native.Mathlib.Omega.{arith}
 use Rattle.records.specs.Words.{records_of}

@@ -1,5 +1,4 @@
 -- What `table::fill` leaves open, from the laws.
-use Prim.Native.Nat.{◌-◌}
 use native.Mathlib.Omega.{arith}
 use Rattle.lists.proofs.Stores.{room_on}
 use Rattle.table.proofs.Stores.{fresh_none, fresh_next, fresh_all}

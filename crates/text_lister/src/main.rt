@@ -30,10 +30,7 @@ fn run(rt: &(impl Print + Eprint), text: &[u8]) -> io::Result<()> {
 // One byte more than is taken, so that a longer text is seen to be too long.
 const ROOM: usize = 524289;
 
-fn read_and_run(
-    rt: &(impl Input + Print + Eprint),
-    text: &mut [u8; ROOM],
-) -> io::Result<()> {
+fn read_and_run(rt: &(impl Input + Print + Eprint), text: &mut [u8; ROOM]) -> io::Result<()> {
     let n = read_full(&mut rt.reader(), text)?;
     run(rt, &text[..n])
 }

@@ -1,5 +1,6 @@
 // The listing program on a book with exactly as many records as there is room for (stdin).
 #![tactic(auto)]
+
 use std::io;
 
 fn main(rt: HostRuntime) -> io::Result<()> {

@@ -1,5 +1,6 @@
 // The listing program on a consistent book (stdin).
 #![tactic(auto)]
+
 use std::io;
 
 fn main(rt: HostRuntime) -> io::Result<()> {

@@ -1,5 +1,6 @@
 // The listing program on an inconsistent core (stdin).
 #![tactic(auto)]
+
 use std::io;
 
 fn main(rt: HostRuntime) -> io::Result<()> {

@@ -1,5 +1,6 @@
 // The listing program on no bytes (stdin).
 #![tactic(auto)]
+
 use std::io;
 
 fn main(rt: HostRuntime) -> io::Result<()> {

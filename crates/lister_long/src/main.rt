@@ -1,5 +1,6 @@
 // The listing program on more bytes than a book can have (stdin).
 #![tactic(auto)]
+
 use std::io;
 
 fn main(rt: HostRuntime) -> io::Result<()> {

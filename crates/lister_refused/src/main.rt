@@ -1,5 +1,6 @@
 // The listing program on a book with an unknown tag (stdin).
 #![tactic(auto)]
+
 use std::io;
 
 fn main(rt: HostRuntime) -> io::Result<()> {

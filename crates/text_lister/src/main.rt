@@ -28,8 +28,14 @@ fn run(rt: &(impl Print + Eprint), text: &[u8]) -> io::Result<()> {
 }
 
 // One byte more than is taken, so that a longer text is seen to be too long.
+const ROOM: usize = 524289;
+
+fn read_and_run(rt: &(impl Input + Print + Eprint), text: &mut [u8; ROOM]) -> io::Result<()> {
+    let n = read_full(&mut rt.reader(), text)?;
+    run(rt, &text[..n])
+}
+
 fn main(rt: HostRuntime) -> io::Result<()> {
-    let mut text = [0u8; 524289];
-    let n = read_full(&mut rt.reader(), &mut text)?;
-    run(&rt, &text[..n])
+    let mut text = [0u8; ROOM];
+    read_and_run(&rt, &mut text)
 }

@@ -7,7 +7,7 @@ abbrev pub invariant-loop-done : goal.invariant-loop-done
 invariant-loop-done g l = record {
   same : length l.buffer ≡ length l.initial.buffer;
   within : l.done ≤ length l.buffer;
-  given : Consumes (g.R.Read.remaining l.initial.input) (g.R.Read.remaining l.input) (take l.done l.buffer)
+  given : Consumes (g.R.Read.remaining l.initial.input) (g.R.Read.remaining l.input) (take l.done l.buffer);
 }
 
 abbrev pub decreases-loop-done : goal.decreases-loop-done

@@ -1,0 +1,2 @@
+-- Laws of what is printed of a space.
+pub mod Fronts

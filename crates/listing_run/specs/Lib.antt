@@ -1,0 +1,2 @@
+-- What the run of the listing program prints.
+pub mod Run

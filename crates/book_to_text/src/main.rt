@@ -1,8 +1,8 @@
 // Reads a rule book from standard input and writes it as group CNF text. A book that is refused gives one line: refused, the number, the place.
 #![tactic(auto)]
 
-use input::read_full;
 use std::io::{self, Write};
+use streams::read_full;
 
 // The longest text of a book has 186,242 bytes (docs/INTEGRATING.md), so that the space is never too small.
 fn convert<W: Write>(out: &mut W, book: &[u8], text: &mut [u8]) -> io::Result<()> {

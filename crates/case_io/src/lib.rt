@@ -2,40 +2,49 @@
 // a checksum of it after the call, and the parts of a line.
 #![tactic(auto)]
 
-ghost use Rattle.std.specs.Prelude.{◌≡◌, ◌<◌, [], ◌∷◌, ◌++◌, length, IfOk, OnOk, codes};
-ghost use Rattle.std.specs.Fmt.{decimal};
-ghost use Rattle.std.specs.Io.KnownBytes.{Appends};
+ghost use Rattle.std.specs.Prelude.{◌≡◌, ◌<◌, [], ◌∷◌, ◌++◌, length, IfOk};
+ghost use Rattle.decimal.specs.Digits.{after};
+ghost use Rattle.report.specs.Text.{refused_word};
+ghost use Rattle.streams.specs.Streams.{Loses, Prints};
 ghost use Rattle.case_io.specs.Fill.{start_at, filled, word_at, words, one_more, sum_from};
 
-use input::read_full;
 use std::io::{self, Read, Write};
+use streams::{read_full, write_full};
 
-// After an error of a function that prints, a part of what it was to print may be printed.
+// After an error of a function that prints, a part of what it was to print is printed, from the first byte on.
 pub fn end_line<W: Write>(out: &mut W) -> io::Result<()>
-    ensures { OnOk result (Appends (W.contents out.old) (W.contents out.new) (10 ∷ [])) }
+    ensures { Prints result (W.contents out.old) (W.contents out.new) (10 ∷ []) }
 {
-    out.write_all(b"\n")
+    write_full(out, b"\n")
 }
 
 // A blank, and a number.
 pub fn put<W: Write>(out: &mut W, n: u64) -> io::Result<()>
-    ensures { OnOk result (Appends (W.contents out.old) (W.contents out.new) (32 ∷ decimal n)) }
+    ensures { Prints result (W.contents out.old) (W.contents out.new) (after n) }
 {
-    write!(out, " {n}")
+    let mut text = [0u8; 21];
+    let end = decimal::put_after(n as usize, &mut text, 0);
+    tell::front(out, &text, end)
 }
 
 fn text_refused<W: Write>(out: &mut W) -> io::Result<()>
-    ensures { OnOk result (Appends (W.contents out.old) (W.contents out.new) (codes "refused")) }
+    ensures { Prints result (W.contents out.old) (W.contents out.new) refused_word }
 {
-    out.write_all(b"refused")
+    write_full(out, b"refused")
+}
+
+fn put_both<W: Write>(out: &mut W, first: u64, second: u64) -> io::Result<()>
+    ensures { Prints result (W.contents out.old) (W.contents out.new) (after first ++ after second) }
+{
+    put(out, first)?;
+    put(out, second)
 }
 
 pub fn tell_refused<W: Write>(out: &mut W, number: u8, place: usize) -> io::Result<()>
-    ensures { OnOk result (Appends (W.contents out.old) (W.contents out.new) (codes "refused" ++ 32 ∷ decimal number ++ 32 ∷ decimal place)) }
+    ensures { Prints result (W.contents out.old) (W.contents out.new) (refused_word ++ (after number ++ after place)) }
 {
     text_refused(out)?;
-    put(out, number as u64)?;
-    put(out, place as u64)
+    put_both(out, number as u64, place as u64)
 }
 
 fn wide(b: u8) -> u64
@@ -45,10 +54,11 @@ fn wide(b: u8) -> u64
     b as u64
 }
 
-// After an error of a function that reads, what was read by then is gone from the input.
+// A function that reads takes bytes from the front of the input, at an error those that it read by then.
 // Which call is next; 0 at the end.
 pub fn next_call<R: Read>(input: &mut R) -> io::Result<u8>
-    ensures { IfOk result (λ b. b < 256) }
+    ensures value { IfOk result (λ b. b < 256) }
+    ensures rest { Loses (R.remaining input.old) (R.remaining input.new) }
 {
     let mut b = [0u8; 1];
     read_full(input, &mut b)?;
@@ -57,7 +67,8 @@ pub fn next_call<R: Read>(input: &mut R) -> io::Result<u8>
 
 // The next number of two bytes.
 pub fn next_two<R: Read>(input: &mut R) -> io::Result<usize>
-    ensures { IfOk result (λ n. n < 65536) }
+    ensures value { IfOk result (λ n. n < 65536) }
+    ensures rest { Loses (R.remaining input.old) (R.remaining input.new) }
 {
     let mut b = [0u8; 2];
     read_full(input, &mut b)?;
@@ -66,7 +77,8 @@ pub fn next_two<R: Read>(input: &mut R) -> io::Result<usize>
 
 // The next number of four bytes; 0 at the end.
 pub fn next_four<R: Read>(input: &mut R) -> io::Result<u32>
-    ensures { IfOk result (λ n. n < 4294967296) }
+    ensures value { IfOk result (λ n. n < 4294967296) }
+    ensures rest { Loses (R.remaining input.old) (R.remaining input.new) }
 {
     let mut b = [0u8; 4];
     read_full(input, &mut b)?;
@@ -75,13 +87,17 @@ pub fn next_four<R: Read>(input: &mut R) -> io::Result<u32>
 }
 
 // The next number of eight bytes.
-pub fn next_eight<R: Read>(input: &mut R) -> io::Result<usize> {
+pub fn next_eight<R: Read>(input: &mut R) -> io::Result<usize>
+    ensures { Loses (R.remaining input.old) (R.remaining input.new) }
+{
     let high = next_four(input)? as usize;
     let low = next_four(input)? as usize;
     Ok(high * 4294967296 + low)
 }
 
-fn next_records<R: Read>(input: &mut R, records: &mut [u32]) -> io::Result<()> {
+fn next_records<R: Read>(input: &mut R, records: &mut [u32]) -> io::Result<()>
+    ensures { Loses (R.remaining input.old) (R.remaining input.new) }
+{
     for record in records {
         *record = next_four(input)?;
     }
@@ -89,7 +105,9 @@ fn next_records<R: Read>(input: &mut R, records: &mut [u32]) -> io::Result<()> {
 }
 
 // The next numbers of four bytes into the front of a space; none where it is too short for them. After an error some of them may stand there.
-pub fn take_records<R: Read>(input: &mut R, given: usize, records: &mut [u32]) -> io::Result<()> {
+pub fn take_records<R: Read>(input: &mut R, given: usize, records: &mut [u32]) -> io::Result<()>
+    ensures { Loses (R.remaining input.old) (R.remaining input.new) }
+{
     if records.len() < given {
         return Ok(());
     }
@@ -113,7 +131,9 @@ fn repeat_bytes(n: usize, at: usize, end: usize, buffer: &mut [u8]) {
 }
 
 // One run into a buffer from `at` on, a block and its copies: the place after it.
-fn run_of_bytes<R: Read>(input: &mut R, at: usize, buffer: &mut [u8]) -> io::Result<usize> {
+fn run_of_bytes<R: Read>(input: &mut R, at: usize, buffer: &mut [u8]) -> io::Result<usize>
+    ensures { Loses (R.remaining input.old) (R.remaining input.new) }
+{
     let total = next_four(input)? as usize;
     let n = next_two(input)?;
     if 1000000 < at {
@@ -130,7 +150,9 @@ fn run_of_bytes<R: Read>(input: &mut R, at: usize, buffer: &mut [u8]) -> io::Res
 }
 
 // The next n bytes, which stand as runs, into a buffer. After an error some of them may stand there.
-pub fn take_bytes<R: Read>(input: &mut R, n: usize, buffer: &mut [u8]) -> io::Result<()> {
+pub fn take_bytes<R: Read>(input: &mut R, n: usize, buffer: &mut [u8]) -> io::Result<()>
+    ensures { Loses (R.remaining input.old) (R.remaining input.new) }
+{
     let mut at: usize = 0;
     for _ in 0..100000u32 {
         if n <= at {

@@ -1,13 +1,13 @@
 // The run of the listing program, which several programs share.
 #![tactic(auto)]
 
-ghost use Rattle.std.specs.Prelude.{◌≡◌, ℕ, ◌≤◌, length, take, IfSome, OnOk};
+ghost use Rattle.std.specs.Prelude.{◌≡◌, ℕ, ◌≤◌, length, take, IfSome};
 ghost use Rattle.records.specs.Words.{room};
 ghost use Rattle.listing_run.specs.Run.{AddsListing};
 
 use admit::WORK_WORDS;
-use input::read_full;
 use std::io::{self, Read, Write};
+use streams::read_full;
 
 // Room for so many records.
 const ROOM: usize = 4096;
@@ -24,7 +24,7 @@ fn print_text<W: Write>(
     out: &mut [u8],
 ) -> io::Result<()>
     ensures { 8192 ≤ length work.old → length records.old ≤ 8192 → 426048 ≤ length out.old
-        → OnOk result (AddsListing (W.contents to.old) (W.contents to.new) book.now (room records.old)) }
+        → AddsListing result (W.contents to.old) (W.contents to.new) book.now (room records.old) }
 {
     if work.len() < WORK_WORDS {
         return Ok(());
@@ -47,7 +47,7 @@ fn print_into<W: Write>(
     out: &mut [u8; TEXT],
 ) -> io::Result<()>
     ensures { 8192 ≤ length work.old → length records.old ≤ 8192
-        → OnOk result (AddsListing (W.contents to.old) (W.contents to.new) book.now (room records.old)) }
+        → AddsListing result (W.contents to.old) (W.contents to.new) book.now (room records.old) }
 {
     print_text(to, book, records, work, out)
 }
@@ -59,15 +59,15 @@ fn print_listing<W: Write>(
     work: &mut [u16],
 ) -> io::Result<()>
     ensures { 8192 ≤ length work.old → length records.old ≤ 8192
-        → OnOk result (AddsListing (W.contents to.old) (W.contents to.new) book.now (room records.old)) }
+        → AddsListing result (W.contents to.old) (W.contents to.new) book.now (room records.old) }
 {
     let mut out = [0u8; TEXT];
     print_into(to, book, records, work, &mut out)
 }
 
-// Prints the listing of a book, with room for 4,096 records; or its refusal. After an error a part of it may be printed.
+// Prints the listing of a book, with room for 4,096 records; or its refusal. After an error a part of it is printed.
 pub fn print_book<W: Write>(to: &mut W, book: &[u8]) -> io::Result<()>
-    ensures { OnOk result (AddsListing (W.contents to.old) (W.contents to.new) book.now 4096) }
+    ensures { AddsListing result (W.contents to.old) (W.contents to.new) book.now 4096 }
 {
     let mut records = [0u32; 8192];
     let mut work = [0u16; 8192];
@@ -76,8 +76,8 @@ pub fn print_book<W: Write>(to: &mut W, book: &[u8]) -> io::Result<()>
 
 // Reads a book, one byte more than a book can have at most, and prints its listing, with room for 4,096 records; or its refusal.
 pub fn run<R: Read, W: Write>(input: &mut R, to: &mut W) -> io::Result<()>
-    ensures { OnOk result (IfSome (R.remaining input.old)
-        (λ xs. AddsListing (W.contents to.old) (W.contents to.new) (take 65536 xs) 4096)) }
+    ensures { IfSome (R.remaining input.old)
+        (λ xs. AddsListing result (W.contents to.old) (W.contents to.new) (take 65536 xs) 4096) }
 {
     let mut book = [0u8; 65536];
     let n = read_full(input, &mut book)?;

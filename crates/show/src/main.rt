@@ -5,9 +5,9 @@
 ghost use Rattle.std.specs.Prelude.{◌<◌, length};
 
 use answer::Written;
-use input::read_full;
 use signed::Signed;
 use std::io::{self, Write};
+use streams::read_full;
 
 fn minus<W: Write>(out: &mut W) -> io::Result<()> {
     out.write_all(b"-")

@@ -2,8 +2,8 @@
 #![tactic(auto)]
 
 use answer::Written;
-use input::read_full;
 use std::io::{self, Write};
+use streams::read_full;
 
 fn print_book<W: Write>(out: &mut W, book: &[u8], n: usize) -> io::Result<()> {
     if book.len() < n {

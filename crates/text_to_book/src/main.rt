@@ -1,8 +1,8 @@
 // Reads group CNF text from standard input and writes its book. A text that is refused gives one line: refused, the number, the line.
 #![tactic(auto)]
 
-use input::read_full;
 use std::io::{self, Write};
+use streams::read_full;
 
 fn convert<W: Write>(out: &mut W, text: &[u8], book: &mut [u8]) -> io::Result<()> {
     let answer = text_reader::from_text(text, book);

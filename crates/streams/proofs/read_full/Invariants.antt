@@ -1,7 +1,7 @@
 -- What was read stands at the front of the buffer, and the input gave it.
 use Rattle.std.proofs.Common.{◌≡◌, ◌-◌, ◌≤◌, length, take}
 use Rattle.std.specs.Io.KnownBytes.{Consumes}
-use Rattle.input.proofs.read_full.Given as goal
+use Rattle.streams.proofs.read_full.Given as goal
 
 abbrev pub invariant-loop-done : goal.invariant-loop-done
 invariant-loop-done g l = record {

@@ -1,4 +1,5 @@
 -- What is printed of a space into which a text was written.
+--   take_wrote      the first bytes of the space are the text
 --   front_wrote     the front of the space is the text
 -- Assumes nothing.
 use Rattle.std.proofs.Common.{◌≡◌, ℕ, ◌+◌, ◌≤◌, List, arith, length, take, drop, ap, ◌∙◌}
@@ -9,7 +10,7 @@ use Rattle.answer.proofs.Spaces.{wrote_length}
 use Rattle.tell.specs.Told.{front_of}
 use lib.Seq.{take_at}
 
-take_wrote : (old xs new : List ℕ) (n : ℕ) → Wrote old 0 xs new n → length xs ≤ length old → take n new ≡ xs
+pub take_wrote : (old xs new : List ℕ) (n : ℕ) → Wrote old 0 xs new n → length xs ≤ length old → take n new ≡ xs
 take_wrote old xs new n w h =
     let within : 0 + length xs ≤ length old = omega arith in
     let same : length xs ≡ n = omega (arith, w.place) in

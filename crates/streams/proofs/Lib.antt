@@ -1,0 +1,2 @@
+-- Laws of what reading and writing leaves.
+pub mod Leaving

@@ -1,0 +1,2 @@
+-- What reading and writing leaves.
+pub mod Streams

@@ -3,6 +3,7 @@
 
 ghost use Rattle.std.specs.Prelude.{◌≡◌, ℕ, ◌≤◌, length, take, IfSome};
 ghost use Rattle.records.specs.Words.{room};
+ghost use Rattle.streams.specs.Streams.{Loses};
 ghost use Rattle.listing_run.specs.Run.{AddsListing};
 
 use admit::WORK_WORDS;
@@ -76,8 +77,9 @@ pub fn print_book<W: Write>(to: &mut W, book: &[u8]) -> io::Result<()>
 
 // Reads a book, one byte more than a book can have at most, and prints its listing, with room for 4,096 records; or its refusal.
 pub fn run<R: Read, W: Write>(input: &mut R, to: &mut W) -> io::Result<()>
-    ensures { IfSome (R.remaining input.old)
+    ensures listing { IfSome (R.remaining input.old)
         (λ xs. AddsListing result (W.contents to.old) (W.contents to.new) (take 65536 xs) 4096) }
+    ensures loses { Loses (R.remaining input.old) (R.remaining input.new) }
 {
     let mut book = [0u8; 65536];
     let n = read_full(input, &mut book)?;

@@ -15,15 +15,15 @@ of_all : (known : Option (List ℕ)) (P : List ℕ → Type 0) → ((xs : List �
 of_all None P p = tt
 of_all (Some xs) P p = p xs
 
-pub returns-in_err-n : goal.returns-in_err-n
-returns-in_err-n g c =
+pub returns-in_err-n-clause-listing : goal.returns-in_err-n-clause-listing
+returns-in_err-n-clause-listing g c =
     let to = g.W.Write.contents c.args.to.now in
     of_all (g.R.Read.remaining c.args.input.now)
     (λ xs. AddsListing c.from_residual.result to to (take 65536 xs) 4096)
     (λ xs fits. Prints-err c.from_residual.result to to _ c.from_residual.ensures.0 (0, Appends-nil to))
 
-pub returns : goal.returns
-returns g c =
+pub returns-clause-listing : goal.returns-clause-listing
+returns-clause-listing g c =
     of_front (g.R.Read.remaining c.args.input.now) _ (length c.read_full.new.buffer) 65536
     (λ book. AddsListing c.print_book.result (g.W.Write.contents c.args.to.now) (g.W.Write.contents c.print_book.new.to) book 4096)
     (omega arith) c.in_ok-n.ensures.front

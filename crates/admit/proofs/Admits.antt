@@ -2,13 +2,8 @@
 --   lack_here, lack_next, lack_none      one group of the choice, and no more
 --   Lacks, lacking_is                    the group that is given is the lowest that the choice names and the book lacks; none is given where there is none
 --   admit_refused, admit_lacks, admit_has      the three ways
---   admitted_one                         the answer determines `Admitted`
---   three_of, told_no, told_book          the answer that tells a refusal, and a book's three numbers
---   admit_no, book_is                    and the other way round
 --   admits_read                          a book that is admitted was read
 --   choice_fits                          and the choice names groups of the book only
---   Granted, admit_book                  what an answer of `admit` says of the bytes and the choice
---   clear_none, clear_more               the first words are 0: none of them, and one more
 --   cleared_again, cleared_over          a space that was used, cleared: what stands behind is as it was; its front was used
 -- Assumes nothing.
 use Prim.Native.Nat.{ℕ, zero, suc, ◌+◌, ◌-◌, ◌/◌, ◌^◌, ◌≤◌, ◌<◌}
@@ -19,26 +14,23 @@ use mathlib.Core.Bool.{Bool, true, false, cond, not}
 use native.Mathlib.Omega.{arith}
 use native.Mathlib.Decide.{ℕ_discrete, dec_lt}
 use lib.Dec.{eqb}
-use lib.ListN.{length, drop, set, replicate, length-replicate}
+use lib.ListN.{length, drop, replicate, length-replicate}
 use lib.Seq.{drop-append-add, drop-drop}
 use lib.Pow.{pow_pos}
 use borrow.Author.Tests.{eq-eqb, ne_eqb, eqb-true, not-false}
-use borrow.Author.Fill.{fill_more}
-use Rattle.answer.specs.Answer.{Answer, answered, refused, and_then, ◌⇒◌, first}
+use Rattle.answer.specs.Answer.{answered, refused, ◌⇒◌, first}
 use Rattle.answer.specs.Space.{over}
 use Rattle.answer.proofs.Answers.{then_by, then_not, then_is, unless_none, unless_some, unless_is}
 use Rattle.answer.proofs.Tests.{first_clear, clash}
-use Rattle.field.specs.Words.{Bytes}
 use Rattle.meaning.specs.Book.{Book}
 use Rattle.meaning.specs.Choice.{digit}
 use Rattle.meaning.proofs.Choices.{digit_or, digit_high}
 use Rattle.book.specs.Bytes.{most_groups}
 use Rattle.book.specs.Reading.{reading}
-use Rattle.book.specs.Check.{numbers_of}
-use Rattle.book.specs.Walk.{taken, book_of, IsBook}
-use Rattle.admit.specs.Admits.{lack_from, lacking, admits, admitted_is, work_words, zeros}
-use Rattle.admit.specs.declared.Admitted.{Admitted}
-use Rattle.admit.specs.declared.Admitted.TheVariants as AdmittedV
+use Rattle.book.specs.Clauses.{meant}
+use Rattle.book.specs.declared.accepted.Book.{Book as Found}
+use Rattle.book.proofs.Walk.{is_book}
+use Rattle.admit.specs.Admits.{lack_from, lacking, admits, work_words, zeros}
 
 -- ---- the groups of a choice
 module _ (g x : ℕ) (h : g < most_groups) where
@@ -111,64 +103,32 @@ lacking_is g x h = go (lacks_from (most_groups - g) g x)
     go (inr L) = inr L
 
 -- ---- the three ways
-module _ (s : List ℕ) (x : ℕ) where
-  pub admit_refused : (n at : ℕ) → reading s ≡ refused n at → admits s x ≡ refused n at
-  unfolding admits
-  admit_refused n at e = then_not _ n at _ e
+pub admit_refused : (s : List ℕ) (x n at : ℕ) → reading s ≡ refused n at → admits s x ≡ refused n at
+unfolding admits
+admit_refused s x n at e = then_not _ n at _ e
 
-  module _ (is : reading s ≡ answered (book_of s)) (g l : ℕ) (eg : g ≡ (book_of s).groups) (el : l ≡ lacking g x) where
-    same : l ≡ lacking (book_of s).groups x
-    same = el ∙ ap (λ (k : ℕ). lacking k x) eg
+-- l is the lowest group that the choice names and the book lacks
+module _ (b : Found) (s : List ℕ) (same : b.bytes.now ≡ s) (x l : ℕ) (el : l ≡ lacking b.groups x) where
+  read_as : reading s ≡ answered (meant b)
+  read_as = subst (λ (t : List ℕ). reading t ≡ answered (meant b)) same (is_book b.bytes.now b.accepted).read
 
-    pub admit_lacks : l ≢ 0 → admits s x ≡ refused 10 l
-    unfolding admits first
-    admit_lacks o =
-        then_by _ (book_of s) _ is
-        ∙ unless_some 10 _ _ (answered (book_of s)) (sym (ap (λ (b : Bool). cond (not b) 10 0) (ap (λ (k : ℕ). eqb k 0) (sym same) ∙ ne_eqb l 0 o))) (λ e. omega arith)
-        ∙ ap (refused 10) (sym same)
+  same_lack : l ≡ lacking (meant b).groups x
+  same_lack = el ∙ ap (λ (k : ℕ). lacking k x) b.groups_are
 
-    pub admit_has : l ≡ 0 → admits s x ≡ answered (book_of s)
-    unfolding admits first
-    admit_has e =
-        then_by _ (book_of s) _ is
-        ∙ unless_none _ _ (answered (book_of s)) (ap (λ (b : Bool). cond (not b) 10 0) (ap (λ (k : ℕ). eqb k 0) (sym same) ∙ eq-eqb l 0 e))
+  pub admit_lacks : l ≢ 0 → admits s x ≡ refused 10 l
+  unfolding admits first
+  admit_lacks o =
+      then_by _ (meant b) _ read_as
+      ∙ unless_some 10 _ _ (answered (meant b)) (sym (ap (λ (b : Bool). cond (not b) 10 0) (ap (λ (k : ℕ). eqb k 0) (sym same_lack) ∙ ne_eqb l 0 o))) (λ e. omega arith)
+      ∙ ap (refused 10) (sym same_lack)
 
--- ---- the answer of `admit`
-pub admitted_one : (a b : Admitted) → admitted_is a ≡ admitted_is b → a ≡ b
-unfolding admitted_is
-admitted_one (AdmittedV.Book v g m) (AdmittedV.Book w h k) e = cc
-admitted_one (AdmittedV.Book v g k) (AdmittedV.Refused m p) e = let z : ◌≡◌ {A = ℕ} 0 1 = cc in absurd (omega arith)
-admitted_one (AdmittedV.Refused n q) (AdmittedV.Book w h k) e = let z : ◌≡◌ {A = ℕ} 0 1 = cc in absurd (omega arith)
-admitted_one (AdmittedV.Refused n q) (AdmittedV.Refused m p) e = cc
+  pub admit_has : l ≡ 0 → admits s x ≡ answered (meant b)
+  unfolding admits first
+  admit_has e =
+      then_by _ (meant b) _ read_as
+      ∙ unless_none _ _ (answered (meant b)) (ap (λ (b : Bool). cond (not b) 10 0) (ap (λ (k : ℕ). eqb k 0) (sym same_lack) ∙ eq-eqb l 0 e))
 
-abbrev pub three_of : Book → Answer (List ℕ)
-three_of b = answered (numbers_of b)
-
-pub told_no : (a : Answer Book) (n at : ℕ) → a ≡ refused n at → admitted_is (AdmittedV.Refused n at) ≡ and_then a three_of
-unfolding admitted_is
-told_no a n at e = sym (then_not a n at _ e)
-
-pub told_book : (a : Answer Book) (b : Book) (v g m : ℕ) → a ≡ answered b → v ≡ b.variables → g ≡ b.groups → m ≡ length b.clauses → admitted_is (AdmittedV.Book v g m) ≡ and_then a three_of
-unfolding admitted_is
-told_book a b v g m e ev eg em = sym (then_by a b _ e ∙ simp (ev, eg, em))
-
-pub admit_no : (a : Answer Book) (n at : ℕ) → admitted_is (AdmittedV.Refused n at) ≡ and_then a three_of → a ≡ refused n at
-unfolding admitted_is and_then
-admit_no (answered b) n at e = let z : ◌≡◌ {A = ℕ} 0 1 = cc in absurd (omega arith)
-admit_no (refused m p) n at e = cc
-
-pub book_is : (a : Answer Book) (v g m : ℕ) → admitted_is (AdmittedV.Book v g m) ≡ and_then a three_of → (b : Book) × (a ≡ answered b) × (v ≡ b.variables) × (g ≡ b.groups) × (m ≡ length b.clauses)
-unfolding admitted_is and_then
-book_is (answered b) v g m e = (b, refl, cc, cc, cc)
-book_is (refused n p) v g m e = let z : ◌≡◌ {A = ℕ} 0 1 = cc in absurd (omega arith)
-
-pub record Granted (s : List ℕ) (x v g m : ℕ) : Type 0 where
-  pub is : IsBook s
-  pub has : admits s x ≡ answered (book_of s)
-  pub variables : v ≡ (book_of s).variables
-  pub groups : g ≡ (book_of s).groups
-  pub clauses : m ≡ length (book_of s).clauses
-
+-- ---- what `admit` found
 pub admits_read : (s : List ℕ) (x : ℕ) (b : Book) → admits s x ≡ answered b → reading s ≡ answered b
 unfolding admits
 admits_read s x b e =
@@ -199,29 +159,9 @@ choice_fits s x b h e =
     go g z (inl w) = w.1
     go g z (inr L) = absurd (omega (arith, z, L.above))
 
-pub admit_book : (s : List ℕ) (x v g m : ℕ) → Bytes s → admitted_is (AdmittedV.Book v g m) ≡ and_then (admits s x) three_of → Granted s x v g m
-unfolding book_of taken
-admit_book s x v g m bytes e =
-    let t = book_is (admits s x) v g m e in
-    let r : reading s ≡ answered t.0 = admits_read s x t.0 t.1 in
-    let b : book_of s ≡ t.0 = ap taken r in
-    record {
-      is = record { bytes = bytes; read = r ∙ ap answered (sym b) };
-      has = t.1 ∙ ap answered (sym b);
-      variables = t.2 ∙ ap (λ (k : Book). k.variables) (sym b);
-      groups = t.3 ∙ ap (λ (k : Book). k.groups) (sym b);
-      clauses = t.4 ∙ ap (λ (k : Book). length k.clauses) (sym b);
-    }
-
 -- ---- clearing
 over_is : (n : ℕ) (w : List ℕ) → over (replicate n 0) w ≡ replicate n 0 ++ drop n w
 over_is n w = ap (λ (k : ℕ). replicate n 0 ++ drop k w) (length-replicate {A = ℕ} n 0)
-
-pub clear_none : (w : List ℕ) → w ≡ over (replicate 0 0) w
-clear_none w = refl
-
-pub clear_more : (n : ℕ) (w : List ℕ) → n < length w → set (over (replicate n 0) w) n 0 ≡ over (replicate (n + 1) 0) w
-clear_more n w h = ap (λ (l : List ℕ). set l n 0) (over_is n w) ∙ fill_more n 0 w h ∙ sym (over_is (n + 1) w)
 
 pub cleared_again : (n : ℕ) (w u w' : List ℕ) → n ≡ work_words → drop n u ≡ drop n w → w' ≡ over (replicate n 0) u → w' ≡ over zeros w
 unfolding zeros

@@ -1,70 +1,41 @@
 // What stands before every call on a book and a choice: the book's refusals, and 10; and the working space, cleared.
 #![tactic(auto)]
 
-ghost use Rattle.std.specs.Prelude.{◌≡◌, ◌≤◌, length, replicate};
-ghost use Rattle.answer.specs.Answer.{answered, and_then};
+ghost use Rattle.std.specs.Prelude.{◌≡◌, ◌≤◌, length, replicate, IfOk, IfSome};
+ghost use Rattle.answer.specs.Refusals.{answer_is};
 ghost use Rattle.answer.specs.Space.{over};
-ghost use Rattle.book.specs.Check.{numbers_of};
-ghost use Rattle.admit.specs.Admits.{lacking as lacking', admits, admitted_is};
+ghost use Rattle.book.specs.Clauses.{meant};
+ghost use Rattle.admit.specs.Admits.{lacking as lacking', found_number, admits};
 
-use book::{Checked, MOST_GROUPS};
+use answer::{Cause, Refusal};
+use book::{Book, MOST_GROUPS};
 
 // How many words of working space a call needs.
 pub const WORK_WORDS: usize = 8192;
 
-#[derive(Drop)]
-pub enum Admitted {
-    Book {
-        variables: u16,
-        groups: u16,
-        clauses: u16,
-    },
-    Refused {
-        number: u8,
-        place: usize,
-    },
-}
-
-// The lowest group that the choice names and a book of so many groups lacks; 0 if there is none.
-fn lacking(groups: u16, choice: u32) -> u16
+// The lowest group that the choice names and a book of so many groups lacks.
+fn lacking(groups: u16, choice: u32) -> Option<u16>
     requires { groups ≤ 32 }
-    ensures { result ≡ lacking' groups choice }
+    ensures lowest { found_number result ≡ lacking' groups choice }
+    ensures group { IfSome result (λ g. 1 ≤ g) }
 {
-    let mut g = groups;
-    while g < MOST_GROUPS {
-        let k = g as u32;
-        if choice::has(choice, k) {
-            return g + 1;
+    for g in groups..MOST_GROUPS {
+        if choice::has(choice, g as u32) {
+            return Some(g + 1);
         }
-        g += 1;
     }
-    0
+    None
 }
 
-// Whether some bytes are a book that has every group of a choice: its numbers, or the refusal.
-pub fn admit(book: &[u8], choice: u32) -> Admitted
-    ensures { admitted_is result ≡ and_then (admits book.now choice) (λ b. answered (numbers_of b)) }
+// Whether some bytes are a book that has every group of a choice: the book, or the refusal.
+pub fn admit(bytes: &[u8], choice: u32) -> Result<Book<'_>, Refusal>
+    ensures admitted { answer_is meant result ≡ admits bytes.now choice }
+    ensures same { IfOk result (λ book. book.bytes ≡ bytes.entry) }
 {
-    match book::check(book) {
-        Checked::Refused { number, place } => Admitted::Refused { number, place },
-        Checked::Book {
-            variables,
-            groups,
-            clauses,
-        } => {
-            let g = lacking(groups, choice);
-            if g != 0 {
-                return Admitted::Refused {
-                    number: 10,
-                    place: g as usize,
-                };
-            }
-            Admitted::Book {
-                variables,
-                groups,
-                clauses,
-            }
-        }
+    let book = book::check(bytes)?;
+    match lacking(book.groups, choice) {
+        None => Ok(book),
+        Some(group) => Err(Cause::GroupLacking.at(group as usize)),
     }
 }
 
@@ -73,9 +44,5 @@ pub fn clear(work: &mut [u16], n: usize)
     requires { n ≤ length work.old }
     ensures { work.new ≡ over (replicate n 0) work.old }
 {
-    let mut i = 0;
-    while i < n {
-        work[i] = 0;
-        i += 1;
-    }
+    work[..n].fill(0);
 }

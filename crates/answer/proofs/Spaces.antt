@@ -1,5 +1,5 @@
 -- A call that writes, by what it is to write.
---   written_one                 the answer determines `Written`
+--   written_one                 the answer determines the result
 --   fitting_in, fitting_out     what fits, and what does not
 --   fitting_is                  what was found to fit
 --   laid_refused, laid_answered           what is left, by what was to be written
@@ -25,16 +25,14 @@ use lib.Seq.{sets, sets-eq, length-sets, take_at, drop-drop, drop-append-add}
 use borrow.Author.Tests.{lt-ltb, le-ltb}
 use Rattle.answer.specs.Answer.{Answer, answered, refused, first, unless}
 use Rattle.answer.specs.Space.{written_is, fitting, counted, over, laid, Wrote}
+use Rattle.std.specs.Prelude.{Result, Ok, Err}
+use Rattle.answer.specs.declared.Refusal.{Refusal}
+use Rattle.answer.specs.Refusals.{number_of}
 use Rattle.answer.proofs.Answers.{unless_is}
-use Rattle.answer.specs.declared.Written.{Written}
-use Rattle.answer.specs.declared.Written.TheVariants.{Count, Refused}
+use Rattle.answer.proofs.Refusals.{answer_one}
 
-pub written_one : (a b : Written) → written_is a ≡ written_is b → a ≡ b
-unfolding written_is
-written_one (Count m) (Count n) e = cc
-written_one (Count m) (Refused n p) e = let z : ◌≡◌ {A = ℕ} 0 1 = cc in absurd (omega arith)
-written_one (Refused m q) (Count n) e = let z : ◌≡◌ {A = ℕ} 0 1 = cc in absurd (omega arith)
-written_one (Refused m q) (Refused n p) e = cc
+written_one : (a b : Result ℕ Refusal) → written_is a ≡ written_is b → a ≡ b
+written_one = answer_one _ (λ x y e. cc)
 
 module _ {A : Type 0} (room : ℕ) (xs : List A) where
   pub fitting_in : length xs ≤ room → fitting room xs ≡ answered xs
@@ -71,15 +69,15 @@ module _ {A : Type 0} (a : Answer (List A)) (old : List A) where
   unfolding laid
   laid_answered xs e = ap (λ (b : Answer (List A)). laid b old) e
 
-  abbrev pub Told : Written → List A → Type 0
+  abbrev pub Told : Result ℕ Refusal → List A → Type 0
   Told r new = (written_is r ≡ counted a) × (new ≡ laid a old)
 
-  pub told_refused : (n at : ℕ) → a ≡ refused n at → Told (Refused n at) old
-  unfolding written_is counted laid
-  told_refused n at e = simp e (refl, refl)
+  pub told_refused : (r : Refusal) → a ≡ refused (number_of r.cause) r.place → Told (Err r) old
+  unfolding counted laid
+  told_refused r e = simp e (refl, refl)
 
-  pub told_written : (xs new : List A) (n : ℕ) → a ≡ answered xs → length xs ≤ length old → Wrote old 0 xs new n → Told (Count n) new
-  unfolding written_is counted laid
+  pub told_written : (xs new : List A) (n : ℕ) → a ≡ answered xs → length xs ≤ length old → Wrote old 0 xs new n → Told (Ok n) new
+  unfolding counted laid
   told_written xs new n e h w =
       let z : 0 + length xs ≤ length old = omega arith in
       let k : 0 + length xs ≡ length xs = omega arith in
@@ -88,19 +86,19 @@ module _ {A : Type 0} (a : Answer (List A)) (old : List A) where
         w.list ∙ sets-eq xs old 0 z ∙ ap (λ (j : ℕ). xs ++ drop j old) k,
       )
 
-  pub told_count : (n : ℕ) (new : List A) → Told (Count n) new → (xs : List A) × (a ≡ answered xs) × (n ≡ length xs) × (take n new ≡ xs)
-  unfolding written_is counted laid
+  pub told_count : (n : ℕ) (new : List A) → Told (Ok n) new → (xs : List A) × (a ≡ answered xs) × (n ≡ length xs) × (take n new ≡ xs)
+  unfolding counted laid
   told_count n new t = go a t.0 t.1
     where
       go : (b : Answer (List A)) → answered (n ∷ []) ≡ counted b → new ≡ laid b old → (xs : List A) × (b ≡ answered xs) × (n ≡ length xs) × (take n new ≡ xs)
       go (answered xs) p q = let e : n ≡ length xs = cc in (xs, refl, e, ap (take n) q ∙ take_at xs (drop (length xs) old) n (sym e))
       go (refused k at) p q = let z : ◌≡◌ {A = ℕ} 0 1 = cc in absurd (omega arith)
 
-  pub told_all : (xs : List A) (r : Written) (new : List A) → a ≡ answered xs → Told r new → (r ≡ Count (length xs)) × (new ≡ over xs old)
-  unfolding written_is counted laid
-  told_all xs r new e t = (written_one r (Count (length xs)) (t.0 ∙ ap counted e), t.1 ∙ ap (λ (b : Answer (List A)). laid b old) e)
+  pub told_all : (xs : List A) (r : Result ℕ Refusal) (new : List A) → a ≡ answered xs → Told r new → (r ≡ Ok (length xs)) × (new ≡ over xs old)
+  unfolding counted laid
+  told_all xs r new e t = (written_one r (Ok (length xs)) (t.0 ∙ ap counted e), t.1 ∙ ap (λ (b : Answer (List A)). laid b old) e)
 
-  pub told_one : (r r' : Written) (new new' : List A) → Told r new → Told r' new' → (r ≡ r') × (new ≡ new')
+  pub told_one : (r r' : Result ℕ Refusal) (new new' : List A) → Told r new → Told r' new' → (r ≡ r') × (new ≡ new')
   told_one r r' new new' p q = (written_one r r' (p.0 ∙ sym q.0), p.1 ∙ sym q.1)
 
 module _ {A : Type 0} where

@@ -1,20 +1,19 @@
 -- What a call that writes answers, and what it leaves in the space that it was lent.
---   written_is r      the answer that `Written` is: the count, or the refusal's number and place
+--   written_is r      the answer of a call that writes: the count, or the refusal's number and place
 --   fitting room xs  xs, where they fit in a space of so many; else refusal 11
 --   counted a        how many were written
 --   over xs old      the space old with xs written into its front; what follows stays
 --   laid a old       the space old after a call that was to write: a refusal leaves it as it came
 --   Wrote old at xs new next      new is old with xs written from place `at` on, and next is the place after them
 -- Assumes nothing: these are definitions.
-use Rattle.std.specs.Prelude.{ℕ, ◌+◌, ◌≡◌, List, [], ◌∷◌, ◌++◌, length, drop, ltb}
+use Rattle.std.specs.Prelude.{ℕ, Result, ◌+◌, ◌≡◌, List, [], ◌∷◌, ◌++◌, length, drop, ltb}
 use Rattle.std.proofs.lemmas.List.Edits.{sets}
 use Rattle.answer.specs.Answer.{Answer, answered, refused, ◌⇒◌, first, unless}
-use Rattle.answer.specs.declared.Written.{Written}
-use Rattle.answer.specs.declared.Written.TheVariants.{Count, Refused}
+use Rattle.answer.specs.declared.Refusal.{Refusal}
+use Rattle.answer.specs.Refusals.{answer_is}
 
-unfoldable pub written_is : Written → Answer (List ℕ)
-written_is (Count n) = answered (n ∷ [])
-written_is (Refused n at) = refused n at
+abbrev pub written_is : Result ℕ Refusal → Answer (List ℕ)
+written_is = answer_is (λ n. n ∷ [])
 
 unfoldable pub fitting : {A : Type 0} → ℕ → List A → Answer (List A)
 fitting room xs = unless (first ((ltb room (length xs) ⇒ 11) ∷ [])) 0 (answered xs)

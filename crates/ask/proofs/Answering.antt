@@ -11,35 +11,39 @@ use native.Mathlib.Omega.{arith}
 use native.Mathlib.Numerals.{add-one}
 use lib.ListN.{length, get_or, take, drop, set, replicate}
 use lib.Seq.{take-length}
+use Rattle.std.specs.Prelude.{Option}
 use Rattle.answer.specs.Space.{over}
 use Rattle.meaning.specs.Forced.{lowest, forced_in, broken_in}
 use Rattle.meaning.specs.Marks.{Flags}
 use Rattle.meaning.proofs.Forced.{forced_partly}
-use Rattle.book.specs.Walk.{book_of, IsBook}
+use Rattle.book.specs.Clauses.{meant}
+use Rattle.book.specs.declared.accepted.Book.{Book}
+use Rattle.book.proofs.Walk.{found}
+use Rattle.marks.specs.Fits.{named}
 use Rattle.marks.proofs.Walks.{heads}
 use Rattle.forcing.specs.Forcing.{Forcing}
 use Rattle.admit.specs.Admits.{zeros}
 use Rattle.admit.proofs.Admits.{cleared_again}
 
 -- the marks after forcing
-module _ (s : List ℕ) (x v : ℕ) (w w' : List ℕ) (is : IsBook s) (ev : v ≡ (book_of s).variables) (F : Forcing s x w w') where
-  pub forced_front : take v w' ≡ forced_in (book_of s) x
-  forced_front = ap (λ (k : ℕ). take k w') ev ∙ F.marks
+module _ (b : Book) (x : ℕ) (w w' : List ℕ) (F : Forcing b.bytes.now x w w') where
+  pub forced_front : take b.variables w' ≡ forced_in (meant b) x
+  forced_front = ap (λ (k : ℕ). take k w') b.variables_are ∙ F.marks
 
-  pub forced_flags : Flags (take v w')
-  forced_flags = subst Flags (sym forced_front) (forced_partly (book_of s) x (heads s is)).flags
+  pub forced_flags : Flags (take b.variables w')
+  forced_flags = subst Flags (sym forced_front) (forced_partly (meant b) x (heads (meant b) (found b))).flags
 
-  pub forced_length : length (take v w') ≡ v
-  forced_length = ap length forced_front ∙ (forced_partly (book_of s) x (heads s is)).length ∙ sym ev
+  pub forced_length : length (take b.variables w') ≡ b.variables
+  forced_length = ap length forced_front ∙ (forced_partly (meant b) x (heads (meant b) (found b))).length ∙ sym b.variables_are
 
-  pub goal_is : (n : ℕ) → n ≡ lowest x (take v w') 1 (book_of s).clauses → n ≡ broken_in (book_of s) x
+  pub goal_is : (r : Option ℕ) → r ≡ named (lowest x (take b.variables w') 1 (meant b).clauses) → r ≡ named (broken_in (meant b) x)
   unfolding broken_in
-  goal_is n e = e ∙ ap (λ (f : List ℕ). lowest x f 1 (book_of s).clauses) forced_front
+  goal_is r e = e ∙ ap (λ (f : List ℕ). named (lowest x f 1 (meant b).clauses)) forced_front
 
   pub cleared_after : (w₃ : List ℕ) → w₃ ≡ over (replicate 8192 0) w' → w₃ ≡ over zeros w
   cleared_after w₃ e = cleared_again 8192 w w' w₃ refl F.rest e
 
-  pub out_is : (out out' : List ℕ) → out' ≡ over (take v w') out → out' ≡ over (forced_in (book_of s) x) out
+  pub out_is : (out out' : List ℕ) → out' ≡ over (take b.variables w') out → out' ≡ over (forced_in (meant b) x) out
   out_is out out' e = e ∙ ap (λ (f : List ℕ). over f out) forced_front
 
 -- marks written as bytes

@@ -1,6 +1,6 @@
 -- What asking answers and leaves, by what the bytes and the choice are.
 --   asks_no, asks_short, asks_tight, asks_goes      the refusals in their order, and none
---   told_no, told_none, told_some      a refusal, a consistent choice, a contradiction
+--   told_no, told_goal        a refusal, and the lowest broken goal or none
 --   asked_one, ask_one        the answer determines `Asked`; the contract of `ask` determines its answer and both spaces
 --   says_consistent           the answer is consistent exactly if some assignment satisfies all clauses in force
 --   says_goal                 a contradiction names the lowest broken goal
@@ -13,9 +13,10 @@ use mathlib.Core.List.{List, [], ◌∷◌}
 use mathlib.Core.Bool.{Bool, cond}
 use native.Mathlib.Omega.{arith}
 use lib.Dec.{ltb}
+use Rattle.std.specs.Prelude.{Option, option_to_list}
 use borrow.Author.Tests.{lt-ltb, le-ltb}
-use Rattle.answer.specs.Answer.{Answer, answered, refused, and_then, first}
-use Rattle.answer.specs.Space.{over, laid}
+use Rattle.answer.specs.Answer.{Answer, answered, refused, first}
+use Rattle.answer.specs.Space.{over}
 use Rattle.answer.proofs.Answers.{then_by, then_not, then_is, unless_none, unless_some, unless_is}
 use Rattle.answer.proofs.Spaces.{laid_refused, laid_answered}
 use Rattle.field.specs.Words.{Bytes}
@@ -27,10 +28,12 @@ use Rattle.meaning.proofs.Deciding.{consistent_in, lowest_is}
 use Rattle.meaning.proofs.Marks.{Heads}
 use Rattle.book.specs.Reading.{reading}
 use Rattle.book.specs.Walk.{taken, book_of, IsBook}
+use Rattle.book.proofs.Walk.{well_formed}
+use Rattle.marks.specs.Fits.{named}
 use Rattle.marks.proofs.Walks.{heads}
 use Rattle.admit.specs.Admits.{admits, work_words, zeros}
-use Rattle.admit.proofs.Admits.{Granted, admits_read}
-use Rattle.ask.specs.Asks.{asked_is, goals, asks, Asking}
+use Rattle.admit.proofs.Admits.{admits_read}
+use Rattle.ask.specs.Asks.{asked_is, goals, asks, Told, Asking}
 use Rattle.ask.specs.declared.Asked.{Asked}
 use Rattle.ask.specs.declared.Asked.TheVariants as AskedV
 
@@ -40,56 +43,50 @@ module _ (s : List ℕ) (x room words : ℕ) where
   unfolding asks
   asks_no n at e = then_not _ n at _ e
 
-  module _ (v g m : ℕ) (H : Granted s x v g m) where
-    pub asks_short : room < v → asks s x room words ≡ refused 11 0
+  module _ (b : Book) (H : admits s x ≡ answered b) where
+    pub asks_short : room < b.variables → asks s x room words ≡ refused 11 0
     unfolding asks first
     asks_short h =
-        then_by _ (book_of s) _ H.has
-        ∙ unless_some 11 _ 0 (answered (book_of s)) (sym (ap (λ (a : Bool). cond a 11 (cond (ltb words work_words) 11 0)) (lt-ltb room (book_of s).variables (omega (arith, H.variables))))) (λ e. omega arith)
+        then_by _ b _ H
+        ∙ unless_some 11 _ 0 (answered b) (sym (ap (λ (a : Bool). cond a 11 (cond (ltb words work_words) 11 0)) (lt-ltb room b.variables h))) (λ e. omega arith)
 
-    pub asks_tight : v ≤ room → words < work_words → asks s x room words ≡ refused 11 0
+    pub asks_tight : b.variables ≤ room → words < work_words → asks s x room words ≡ refused 11 0
     unfolding asks first
     asks_tight l h =
-        then_by _ (book_of s) _ H.has
-        ∙ unless_some 11 _ 0 (answered (book_of s))
-        (sym (ap (λ (a : Bool). cond a 11 (cond (ltb words work_words) 11 0)) (le-ltb room (book_of s).variables (omega (arith, H.variables))) ∙ ap (λ (a : Bool). cond a 11 0) (lt-ltb words work_words h)))
+        then_by _ b _ H
+        ∙ unless_some 11 _ 0 (answered b)
+        (sym (ap (λ (a : Bool). cond a 11 (cond (ltb words work_words) 11 0)) (le-ltb room b.variables l) ∙ ap (λ (a : Bool). cond a 11 0) (lt-ltb words work_words h)))
         (λ e. omega arith)
 
-    pub asks_goes : v ≤ room → work_words ≤ words → asks s x room words ≡ answered (book_of s)
+    pub asks_goes : b.variables ≤ room → work_words ≤ words → asks s x room words ≡ answered b
     unfolding asks first
     asks_goes l h =
-        then_by _ (book_of s) _ H.has
-        ∙ unless_none _ 0 (answered (book_of s))
-        (ap (λ (a : Bool). cond a 11 (cond (ltb words work_words) 11 0)) (le-ltb room (book_of s).variables (omega (arith, H.variables))) ∙ ap (λ (a : Bool). cond a 11 0) (le-ltb words work_words h))
+        then_by _ b _ H
+        ∙ unless_none _ 0 (answered b)
+        (ap (λ (a : Bool). cond a 11 (cond (ltb words work_words) 11 0)) (le-ltb room b.variables l) ∙ ap (λ (a : Bool). cond a 11 0) (le-ltb words work_words h))
 
 -- ---- what is told and left
-pub told_no : (a : Answer Book) (x n at : ℕ) (out work : List ℕ) → a ≡ refused n at → Asking a x (AskedV.Refused n at) out work out work
-unfolding asked_is
+pub told_no : (a : Answer Book) (x n at : ℕ) (out work : List ℕ) → a ≡ refused n at → Told a x (refused n at) out work out work
 told_no a x n at out work e =
     (sym (then_not a n at _ e), sym (laid_refused _ out n at (then_not a n at _ e)), sym (laid_refused _ work n at (then_not a n at _ e)))
+
+goals_named : (n : ℕ) → option_to_list (named n) ≡ goals n
+unfolding goals
+goals_named zero = refl
+goals_named (suc n) = refl
+
+pub told_goal : (a : Answer Book) (x : ℕ) (b : Book) (out work out' work' : List ℕ) (r : Option ℕ) → a ≡ answered b → r ≡ named (broken_in b x)
+    → out' ≡ over (forced_in b x) out → work' ≡ over zeros work → Told a x (answered (option_to_list r)) out work out' work'
+told_goal a x b out work out' work' r e is o w = (
+  ap answered (ap option_to_list is ∙ goals_named (broken_in b x)) ∙ sym (then_by a b _ e),
+  o ∙ sym (laid_answered _ out (forced_in b x) (then_by a b _ e)),
+  w ∙ sym (laid_answered _ work zeros (then_by a b _ e)),
+)
 
 goals_none : (n : ℕ) → n ≡ 0 → goals n ≡ []
 unfolding goals
 goals_none zero e = refl
 goals_none (suc n) e = absurd (omega arith)
-
-goals_some : (n : ℕ) → n ≢ 0 → goals n ≡ n ∷ []
-unfolding goals
-goals_some zero o = absurd (o refl)
-goals_some (suc n) o = refl
-
-module _ (a : Answer Book) (x : ℕ) (b : Book) (out work out' work' : List ℕ) (e : a ≡ answered b) (n : ℕ) (is : n ≡ broken_in b x)
-    (o : out' ≡ over (forced_in b x) out) (w : work' ≡ over zeros work) where
-  both : (out' ≡ laid (and_then a (λ b. answered (forced_in b x))) out) × (work' ≡ laid (and_then a (λ b. answered zeros)) work)
-  both = (o ∙ sym (laid_answered _ out (forced_in b x) (then_by a b _ e)), w ∙ sym (laid_answered _ work zeros (then_by a b _ e)))
-
-  pub told_none : n ≡ 0 → Asking a x AskedV.Consistent out work out' work'
-  unfolding asked_is
-  told_none z = (sym (then_by a b _ e ∙ ap answered (ap goals (sym is) ∙ goals_none n z)), both.0, both.1)
-
-  pub told_some : n ≢ 0 → Asking a x (AskedV.Contradiction n) out work out' work'
-  unfolding asked_is
-  told_some z = (sym (then_by a b _ e ∙ ap answered (ap goals (sym is) ∙ goals_some n z)), both.0, both.1)
 
 -- ---- the contract determines everything
 pub asked_one : (a b : Asked) → asked_is a ≡ asked_is b → a ≡ b
@@ -130,7 +127,7 @@ asks_book s x room words b bytes e =
 asks_heads : (s : List ℕ) (x room words : ℕ) (b : Book) → Bytes s → asks s x room words ≡ answered b → Heads b.variables b.clauses
 asks_heads s x room words b bytes e =
     let k = asks_book s x room words b bytes e in
-    subst (λ (z : Book). Heads z.variables z.clauses) k.1 (heads s k.0)
+    subst (λ (z : Book). Heads z.variables z.clauses) k.1 (heads (book_of s) (well_formed s k.0))
 
 module _ (s : List ℕ) (x room words : ℕ) (b : Book) (bytes : Bytes s) (e : asks s x room words ≡ answered b)
     (r : Asked) (out work out' work' : List ℕ) (A : Asking (asks s x room words) x r out work out' work') where

@@ -3,21 +3,14 @@
 #![tactic(auto)]
 
 use ask::Asked;
+use case_io::Number;
 use std::io::{self, Read, Write};
-
-fn text_consistent<W: Write>(to: &mut W) -> io::Result<()> {
-    to.write_all(b"consistent")
-}
-
-fn text_contradiction<W: Write>(to: &mut W) -> io::Result<()> {
-    to.write_all(b"contradiction")
-}
 
 fn tell<W: Write>(to: &mut W, answer: Asked) -> io::Result<()> {
     match answer {
-        Asked::Consistent => text_consistent(to),
+        Asked::Consistent => to.write_all(b"consistent"),
         Asked::Contradiction { clause } => {
-            text_contradiction(to)?;
+            to.write_all(b"contradiction")?;
             case_io::put(to, clause as u64)
         }
         Asked::Refused { number, place } => case_io::tell_refused(to, number, place),
@@ -32,65 +25,64 @@ fn run_ask<W: Write>(
     out: &mut [u8],
     work: &mut [u16],
 ) -> io::Result<()> {
-    case_io::fill_bytes(out);
-    case_io::fill_words(work);
+    case_io::fill(out);
+    case_io::fill(work);
     tell(to, ask::ask(book, choice, out, work))?;
-    case_io::put(to, case_io::sum_bytes(out))?;
-    case_io::put(to, case_io::sum_words(work))?;
-    case_io::end_line(to)
+    case_io::put(to, case_io::sum(out))?;
+    case_io::put(to, case_io::sum(work))?;
+    tell::end_line(to)
 }
 
-// The case's part of each space.
-fn run_parts<W: Write>(
-    to: &mut W,
-    choice: u32,
-    book: &[u8],
-    room: usize,
-    out: &mut [u8],
-    words: usize,
-    work: &mut [u16],
-) -> io::Result<()> {
-    if out.len() < room {
-        return Ok(());
-    }
-    if work.len() < words {
-        return Ok(());
-    }
-    run_ask(to, book, choice, &mut out[..room], &mut work[..words])
-}
-
-fn run_book<W: Write>(
-    to: &mut W,
-    n: usize,
+// What a case says before its book: how many bytes that has, the choice, and how much of each space is lent.
+#[derive(Clone, Copy)]
+struct Case {
+    len: usize,
     choice: u32,
     room: usize,
     words: usize,
-    bytes: &[u8],
-) -> io::Result<()> {
+}
+
+fn next_case<R: Read>(input: &mut R) -> io::Result<Case> {
+    Ok(Case {
+        len: u32::next(input)? as usize,
+        choice: u32::next(input)?,
+        room: u16::next(input)? as usize,
+        words: u16::next(input)? as usize,
+    })
+}
+
+// A case that asks for more than the program's own spaces have runs no call.
+fn run_book<W: Write>(to: &mut W, case: Case, book: &[u8]) -> io::Result<()> {
     let mut out = [0u8; 1100];
     let mut work = [0u16; 8300];
-    if bytes.len() < n {
+    if out.len() < case.room || work.len() < case.words {
         return Ok(());
     }
-    run_parts(to, choice, &bytes[..n], room, &mut out, words, &mut work)
+    run_ask(
+        to,
+        book,
+        case.choice,
+        &mut out[..case.room],
+        &mut work[..case.words],
+    )
 }
 
-fn next_case<R: Read, W: Write>(input: &mut R, to: &mut W) -> io::Result<()> {
-    let n = case_io::next_four(input)? as usize;
-    let choice = case_io::next_four(input)?;
-    let room = case_io::next_two(input)?;
-    let words = case_io::next_two(input)?;
+fn run_case<R: Read, W: Write>(input: &mut R, to: &mut W) -> io::Result<()> {
+    let case = next_case(input)?;
     let mut bytes = [0u8; 65600];
-    case_io::take_bytes(input, n, &mut bytes)?;
-    run_book(to, n, choice, room, words, &bytes)
+    case_io::take_runs(input, case.len, &mut bytes)?;
+    match bytes.get(..case.len) {
+        Some(book) => run_book(to, case, book),
+        None => Ok(()),
+    }
 }
 
 fn run_cases<R: Read, W: Write>(input: &mut R, to: &mut W) -> io::Result<()> {
-    for _ in 0..100000u32 {
-        if case_io::next_call(input)? == 0 {
+    for _ in 0..case_io::MOST_CASES {
+        if u8::next(input)? == 0 {
             return Ok(());
         }
-        next_case(input, to)?;
+        run_case(input, to)?;
     }
     Ok(())
 }

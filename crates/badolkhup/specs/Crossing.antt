@@ -3,18 +3,18 @@
 --   values_of a         an answer's values; of a refusal, its place
 --   blank              the numbers behind the last value: zeros
 --   Crosses a r ns     the answer a crosses as the number r and the numbers ns: how many values there are, the values, and zeros to the fourth number
---   Crossing is P r ns the same of the answer that `is` gives of an enum's case, of which P holds
+--   Crossing is P r ns the same of the answer that `is` gives of a result of which P holds
 --   back_of r ns        the answer that crossed as r and ns
 -- Assumes nothing: these are definitions.
 use Rattle.std.specs.Prelude.{ℕ, zero, suc, ◌≡◌, List, [], ◌∷◌, length, take}
 use Rattle.answer.specs.Answer.{Answer, answered, refused}
 use Rattle.answer.specs.Space.{over}
 
-unfoldable pub number_of : Answer (List ℕ) → ℕ
+abbrev pub number_of : Answer (List ℕ) → ℕ
 number_of (answered vs) = 0
 number_of (refused n at) = n
 
-unfoldable pub values_of : Answer (List ℕ) → List ℕ
+abbrev pub values_of : Answer (List ℕ) → List ℕ
 values_of (answered vs) = vs
 values_of (refused n at) = at ∷ []
 

@@ -4,8 +4,10 @@ mod Fields
 mod Counting
 pub mod Written
 pub mod Inverse
+pub mod Left
 pub mod Walk
 pub mod Walks
 pub mod Sizes
 pub mod Checks
 pub mod Fitting
+pub mod Chains

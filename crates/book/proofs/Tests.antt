@@ -2,15 +2,14 @@
 --   StartOk, HeaderOk, ClauseOk, FieldOk      what a right one satisfies
 --   start_ok, header_ok, clause_ok, field_ok      nothing is wrong with it, so it satisfies that
 --   shape_least                      a clause of a right length has its group and its head
---   body_within, body_rises          what the two tests of the body part say
 --   start_none, header_none, clause_none, field_none      it satisfies that, so nothing is wrong with it
 -- Assumes nothing.
-use Prim.Native.Nat.{ℕ, zero, suc, ◌-◌, ◌≤◌, ◌%◌}
-use mathlib.Core.Path.{◌≡◌, refl, sym, ap, ◌∙◌}
+use Prim.Native.Nat.{ℕ, zero, suc, ◌≤◌, ◌%◌}
+use mathlib.Core.Path.{◌≡◌, refl}
 use mathlib.Core.List.{List}
-use mathlib.Core.Bool.{Bool, true, cond}
+use mathlib.Core.Bool.{true, cond}
 use native.Mathlib.Omega.{arith}
-use lib.ListN.{length, take, drop}
+use lib.ListN.{length}
 use lib.Dec.{eqb}
 use borrow.Author.Tests.{le-ltb, eq-eqb, ne_eqb, ltb-false, eqb-true, eqb-false, not-false}
 use Rattle.answer.specs.Answer.{first, ◌or_else◌}
@@ -65,17 +64,6 @@ header_none r k =
       le-ltb most_variables (variables_of r) k.variables,
       le-ltb most_groups (groups_of r) k.groups,
     )
-
--- what the code cuts out of a clause of n bytes is its body
-module _ (r : List ℕ) (n : ℕ) (is : n ≡ size r) where
-  body_cut : take (n - 7) (drop 7 r) ≡ body_part r
-  body_cut = let e : n - 7 ≡ len r - 4 = omega arith in ap (λ (k : ℕ). take k (drop 7 r)) e
-
-  pub body_within : (v : ℕ) (b : Bool) → b ≡ within 1 v (words (take (n - 7) (drop 7 r))) → within 1 v (words (body_part r)) ≡ b
-  body_within v b e = sym (e ∙ ap (λ (l : List ℕ). within 1 v (words l)) body_cut)
-
-  pub body_rises : (b : Bool) → b ≡ rising 0 (words (take (n - 7) (drop 7 r))) → rising 0 (words (body_part r)) ≡ b
-  body_rises b e = sym (e ∙ ap (λ (l : List ℕ). rising 0 (words l)) body_cut)
 
 pub shape_least : (left : ℕ) (r : List ℕ) → first (shape_tests left r) ≡ 0 → 4 ≤ len r
 shape_least left r h = ltb-false _ _ (first_clear (shape_tests left r) h).0

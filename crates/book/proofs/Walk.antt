@@ -1,24 +1,36 @@
--- A walk over an accepted book's clauses: what stands first, and what follows.
+-- The clauses of an accepted book, as they stand in its bytes.
 --   read, well_formed      an accepted book is read from its bytes, and is well formed
+--   is_book, found, reads_as      what the invariant of a `Book` says
 --   Walk v g r cs      r is the bytes of the clauses cs, which are good, with the end after them
---   Begun, begun       the walk begins past the header
---   walk_over          at the end no clause is left
---   Turn, walk_on      at a clause: where its parts lie, and that the walk goes on after it
+--   Begun, begun       the clauses begin past the header
+--   Stands, stands     a clause that stands first in some bytes
+--   left_walk, walks_walk      a walk over those bytes gives those clauses
+--   later              what is left behind the clause at hand is good as well
 -- Assumes nothing.
-use Prim.Native.Nat.{ℕ, ◌+◌, ◌-◌, ◌*◌, ◌≤◌, ◌<◌}
+use Prim.Native.Nat.{ℕ, ◌-◌, ◌≤◌, ◌<◌}
 use mathlib.Core.Path.{◌≡◌, refl, sym, ap, ◌∙◌}
+use mathlib.Core.Path.{subst}
+use mathlib.Core.Bool.{true}
 use mathlib.Core.List.{List, [], ◌∷◌, ◌++◌}
 use native.Mathlib.Omega.{arith}
+use lib.Dec.{ltb}
 use lib.ListN.{length, take, drop}
-use borrow.Author.Tests.{lt-ltb, le-ltb}
-use Rattle.field.specs.Words.{words, word_bytes}
-use Rattle.field.specs.Field.{len, size, field_bytes}
+use borrow.Author.Tests.{ltb-true}
+use Rattle.std.specs.List.{list_all}
+use Rattle.std.proofs.Common.{lit<}
+use Rattle.answer.specs.Answer.{Answer, answered, refused}
+use Rattle.answer.proofs.Tests.{and_left, and_right}
+use Rattle.field.specs.Words.{Bytes, word_bytes}
+use Rattle.field.specs.Field.{size, after, field_bytes}
 use Rattle.field.proofs.Parts.{part_end}
-use Rattle.field.proofs.Words.{words_bytes, words_two}
+use Rattle.field.proofs.Words.{words_bytes}
 use Rattle.meaning.specs.Book.{Clause, Book}
 use Rattle.book.specs.Bytes.{GoodClause, GoodClauses, WellFormed, clause_bytes, clauses_bytes, bytes_of}
-use Rattle.book.specs.Walk.{book_of, IsBook, front_of}
-use Rattle.book.specs.declared.Front.TheVariants as FrontV
+use Rattle.book.specs.Reading.{clause_of, reading}
+use Rattle.book.specs.Walk.{taken, book_of, IsBook, answers, is_accepted, walks, left}
+use Rattle.book.specs.Clauses.{meant}
+use Rattle.book.specs.declared.accepted.Book.{Book as Found}
+use Rattle.book.proofs.Left.{left_short, walks_short, left_step, walks_first}
 use Rattle.book.proofs.Written.{Starts, starts, header_after}
 use Rattle.book.proofs.Inverse.{Read, reading_is}
 
@@ -59,74 +71,62 @@ begun s is =
       };
     }
 
--- where a clause is left, it stands first
-record Ahead (v g : ℕ) (r : List ℕ) (c : Clause) (cs : List Clause) : Type 0 where
-  starts : Starts c (clauses_bytes cs) r
-  good : GoodClause v g c
-  walk : Walk v g (take (length r - size r) (drop (size r) r)) cs
-  front : front_of r ≡ FrontV.Clause 3 c.head 7 (size r)
+-- a clause that stands first in r, and what follows it
+pub record Stands (r : List ℕ) (c : Clause) (cs : List Clause) : Type 0 where
+  pub long : 7 ≤ size r
+  pub least : 7 ≤ length r
+  pub fits : size r ≤ length r
+  pub is : clause_of r ≡ c
+  pub next : clauses_bytes cs ≡ after r
 
-at_first : (c : Clause) (rest r : List ℕ) → length c.groups ≡ 1 → clause_bytes c ++ rest ≡ r → Starts c rest r
-at_first c rest r one e = simp (← e) (starts c rest one)
+starts_at : (c : Clause) (rest r : List ℕ) → length c.groups ≡ 1 → clause_bytes c ++ rest ≡ r → Starts c rest r
+starts_at c rest r one e = simp (← e) (starts c rest one)
 
-ahead : (v g : ℕ) (r : List ℕ) (c : Clause) (cs : List Clause) → Walk v g r (c ∷ cs) → Ahead v g r c cs
-unfolding clauses_bytes front_of
-ahead v g r c cs w =
-    let s : Starts c (clauses_bytes cs) r = at_first c (clauses_bytes cs) r w.good.0.one w.bytes in
-    let long : 7 ≤ length r = omega (arith, s.fits, s.long) in
+pub stands : (c : Clause) (cs : List Clause) (r : List ℕ) → length c.groups ≡ 1 → clauses_bytes (c ∷ cs) ≡ r → Stands r c cs
+unfolding clauses_bytes
+stands c cs r one e =
+    let s : Starts c (clauses_bytes cs) r = starts_at c (clauses_bytes cs) r one e in
     record {
-      starts = s;
-      good = w.good.0;
-      walk = record { bytes = sym (part_end r (size r) ∙ s.follows); good = w.good.1 };
-      front = simp (le-ltb (length r) 7 long, s.head);
-    }
-
-at_end : (v g : ℕ) (r : List ℕ) → Walk v g r [] → front_of r ≡ FrontV.End
-unfolding clauses_bytes front_of field_bytes
-at_end v g r w = let short : length r < 7 = omega (arith, ap length w.bytes) in simp (lt-ltb (length r) 7 short)
-
-pub walk_over : (v g : ℕ) (r : List ℕ) (cs : List Clause) → Walk v g r cs → front_of r ≡ FrontV.End → cs ≡ []
-walk_over v g r [] w e = refl
-walk_over v g r (c ∷ cs) w e = let f = (ahead v g r c cs w).front in let z : ◌≡◌ {A = ℕ} 0 1 = cc in absurd (omega arith)
-
-pub record Turn (v g : ℕ) (r : List ℕ) (cs : List Clause) (from h body size : ℕ) : Type 0 where
-  pub now : Clause
-  pub later : List Clause
-  pub is : cs ≡ now ∷ later
-  pub good : GoodClause v g now
-  pub head : h ≡ now.head
-  pub before : from + 2 ≤ body
-  pub groups : words (take (body - 2 - from) (drop from r)) ≡ now.groups
-  pub least : body ≤ size
-  pub most : size ≤ 71
-  pub fits : size ≤ length r
-  pub long : size ≡ body + 2 * length now.body
-  pub numbers : words (take (size - body) (drop body r)) ≡ now.body
-  pub next : Walk v g (take (length r - size) (drop size r)) later
-
-pub walk_on : (v g : ℕ) (r : List ℕ) (cs : List Clause) (from h body n : ℕ) → Walk v g r cs → front_of r ≡ FrontV.Clause from h body n → Turn v g r cs from h body n
-walk_on v g r [] from h body n w e = let f = at_end v g r w in let z : ◌≡◌ {A = ℕ} 0 1 = cc in absurd (omega arith)
-walk_on v g r (c ∷ cs) from h body n w e =
-    let a = ahead v g r c cs w in
-    let f = a.front in
-    let s = a.starts in
-    let one : from ≡ 3 = cc in
-    let two : body ≡ 7 = cc in
-    let same : n ≡ size r = cc in
-    let cut : n - body ≡ len r - 4 = omega arith in
-    let gap : body - 2 - from ≡ 2 = omega arith in
-    record {
-      now = c;
-      later = cs;
-      is = refl;
-      good = a.good;
-      head = cc;
-      before = omega arith;
-      groups = ap (λ (k : ℕ). words (take k (drop from r))) gap ∙ ap (λ (k : ℕ). words (take 2 (drop k r))) one ∙ words_two r 3 (omega (arith, s.fits, s.long)) ∙ s.groups;
-      least = omega (arith, s.long);
-      most = omega (arith, s.long, a.good.few);
-      fits = omega (arith, s.fits);
       long = omega (arith, s.long);
-      numbers = ap (λ (k : ℕ). words (take k (drop body r))) cut ∙ ap (λ (k : ℕ). words (take (len r - 4) (drop k r))) two ∙ ap words s.part ∙ words_bytes c.body;
-      next = simp same a.walk;
+      least = omega (arith, s.fits, s.long);
+      fits = s.fits;
+      is = simp (s.groups, s.head, s.part, words_bytes c.body);
+      next = sym s.follows;
     }
+
+end_short : length (clauses_bytes []) < 7
+unfolding clauses_bytes field_bytes
+end_short = lit< tt
+
+pub left_walk : (v g : ℕ) (r : List ℕ) (cs : List Clause) → Walk v g r cs → (left (length r) r ≡ cs) × (walks (length r) r ≡ true)
+left_walk v g r [] w =
+    let short : length r < 7 = subst (λ (t : List ℕ). length t < 7) w.bytes end_short in
+    (left_short (length r) r short, walks_short (length r) r short)
+left_walk v g r (c ∷ cs) w =
+    let s = stands c cs r w.good.0.one w.bytes in
+    let t = left_walk v g (after r) cs (record { bytes = s.next; good = w.good.1 }) in
+    (left_step r s.least ∙ simp (s.is, t.0), walks_first r s.least s.long s.fits t.1)
+
+pub later : (v g : ℕ) (cs : List Clause) (c : Clause) (rest : List Clause) → GoodClauses v g cs → cs ≡ c ∷ rest → GoodClause v g c × GoodClauses v g rest
+later v g cs c rest good e = subst (GoodClauses v g) e good
+
+-- what the invariant of a book says
+pub is_book : (s : List ℕ) → is_accepted s ≡ true → IsBook s
+unfolding is_accepted answers taken book_of
+is_book s e =
+    let t = list_all (λ (a : ℕ). ltb a 256) s in
+    record { bytes = bytes s (and_left t (answers (reading s)) e); read = answered_by (reading s) (and_right t (answers (reading s)) e) }
+  where
+    bytes : (s : List ℕ) → list_all (λ (a : ℕ). ltb a 256) s ≡ true → Bytes s
+    bytes [] e = tt
+    bytes (a ∷ s) e = (ltb-true a 256 (and_left _ _ e), bytes s (and_right _ _ e))
+
+    answered_by : (a : Answer Book) → answers a ≡ true → a ≡ answered (taken a)
+    answered_by (answered b) e = refl
+    answered_by (refused n at) e = let z : ◌≡◌ {A = ℕ} 0 1 = cc in absurd (omega arith)
+
+pub found : (b : Found) → WellFormed (meant b)
+found b = well_formed b.bytes.now (is_book b.bytes.now b.accepted)
+
+pub reads_as : (b : Found) (s : List ℕ) → b.bytes.now ≡ s → reading s ≡ answered (meant b)
+reads_as b s same = subst (λ (t : List ℕ). reading t ≡ answered (meant b)) same (is_book b.bytes.now b.accepted).read

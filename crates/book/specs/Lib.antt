@@ -3,3 +3,4 @@ pub mod Bytes
 pub mod Reading
 pub mod Check
 pub mod Walk
+pub mod Clauses

@@ -1,12 +1,19 @@
 // The reader of rule books: whether some bytes are one, and its clauses one after the other.
 #![tactic(auto)]
 
-ghost use Rattle.std.specs.Prelude.{◌≡◌, [], ◌∷◌, ◌+◌, ◌-◌, ◌<◌, ◌≤◌, length, drop};
+ghost use Rattle.std.specs.Prelude.{◌≡◌, [], ◌∷◌, ◌-◌, ◌≤◌, length, drop, IfOk, OnOk};
 ghost use Rattle.answer.specs.Answer.{answered, and_then, first};
+ghost use Rattle.answer.specs.Refusals.{wrong_is, answer_is};
 ghost use Rattle.field.specs.Field.{len, size};
-ghost use Rattle.book.specs.Reading.{start_tests, shape_tests, number_tests, wrong_header, wrong_clause, wrong_field, fields};
+ghost use Rattle.book.specs.Reading.{variables_of, groups_of, start_tests, shape_tests, number_tests, wrong_header, wrong_clause, wrong_field, fields};
 ghost use Rattle.book.specs.Check.{checked_is, checking};
-ghost use Rattle.book.specs.Walk.{front_of};
+
+mod accepted;
+mod first;
+
+pub use accepted::{Book, Clause, Clauses};
+use answer::{Cause, Refusal};
+pub use first::first_clause;
 
 // The limits.
 pub const MOST_BYTES: usize = 65535;
@@ -19,213 +26,164 @@ pub const MOST_CLAUSES: u16 = 2048;
 
 pub const MOST_BODY: u16 = 32;
 
-// What checking a book answers.
-#[derive(Drop)]
-pub enum Checked {
-    Book {
-        variables: u16,
-        groups: u16,
-        clauses: u16,
-    },
-    Refused {
-        number: u8,
-        place: usize,
-    },
+// A header's numbers.
+#[derive(Clone, Copy)]
+struct Header {
+    variables: u16,
+    groups: u16,
 }
 
-// What is wrong with the field that stands first in `rest`, whatever it is, by number; 0 if nothing is. The same below.
-fn wrong_start(rest: &[u8]) -> u8
-    ensures { result ≡ first (start_tests rest.now) }
+// Whether the field that stands first in `rest`, whatever it is, is right; else why not. The same below.
+#[tactic(auto, unfolding(answer::specs::Answer::first, field::specs::Field::short))]
+fn test_start(rest: &[u8]) -> Result<(), Cause>
+    ensures wrong { wrong_is result ≡ first (start_tests rest.now) }
+    ensures fits { OnOk result (size rest.now ≤ length rest.now) }
 {
     if field::is_short(rest) {
-        return 2;
+        return Err(Cause::CutShort);
     }
     if 2 < rest[0] {
-        return 3;
+        return Err(Cause::UnknownTag);
     }
-    0
+    Ok(())
 }
 
-// What is wrong with the first field of a book.
-fn wrong_header(rest: &[u8]) -> u8
-    ensures { result ≡ wrong_header rest.now }
+// The first field of a book: its numbers.
+#[tactic(auto, using(answer::proofs::Refusals::in_turn), unfolding(answer::specs::Answer::first, crate::specs::Reading::wrong_header))]
+fn test_header(rest: &[u8]) -> Result<Header, Cause>
+    ensures wrong { wrong_is result ≡ wrong_header rest.now }
+    ensures header { IfOk result (λ header. (header.variables ≡ variables_of rest.now) × (header.groups ≡ groups_of rest.now)) }
 {
-    let number = wrong_start(rest);
-    if number != 0 {
-        return number;
-    }
+    test_start(rest)?;
     if rest[0] != 1 {
-        return 4;
+        return Err(Cause::HeaderMisplaced);
     }
     if field::word_at(rest, 1) != 4 {
-        return 5;
+        return Err(Cause::BadLength);
     }
     let variables = field::word_at(rest, 3);
+    let groups = field::word_at(rest, 5);
     if variables < 1 {
-        return 7;
+        return Err(Cause::OutOfRange);
     }
     if MOST_VARIABLES < variables {
-        return 7;
+        return Err(Cause::OutOfRange);
     }
-    if MOST_GROUPS < field::word_at(rest, 5) {
-        return 7;
+    if MOST_GROUPS < groups {
+        return Err(Cause::OutOfRange);
     }
-    0
+    Ok(Header { variables, groups })
 }
 
-// What is wrong with a clause's length, and with its number.
-fn wrong_shape(rest: &[u8], left: u16) -> u8
+// Whether a clause's length is right, and the number of clauses with it.
+#[tactic(auto, unfolding(answer::specs::Answer::first))]
+fn test_shape(rest: &[u8], left: u16) -> Result<(), Cause>
     requires { size rest.now ≤ length rest.now }
-    ensures { result ≡ first (shape_tests left rest.now) }
+    ensures { wrong_is result ≡ first (shape_tests left rest.now) }
 {
     let n = field::word_at(rest, 1);
     if n < 4 {
-        return 5;
+        return Err(Cause::BadLength);
     }
     if n % 2 == 1 {
-        return 5;
+        return Err(Cause::BadLength);
     }
     if 68 < n {
-        return 5;
+        return Err(Cause::BadLength);
     }
     if left == 0 {
-        return 6;
+        return Err(Cause::TooManyClauses);
     }
-    0
+    Ok(())
 }
 
-// What is wrong with a clause's numbers.
-fn wrong_numbers(rest: &[u8], variables: u16, groups: u16) -> u8
+// A clause's numbers.
+#[tactic(auto, unfolding(answer::specs::Answer::first))]
+fn test_numbers(rest: &[u8], header: Header) -> Result<(), Cause>
     requires { (size rest.now ≤ length rest.now) × (4 ≤ len rest.now) }
-    ensures { result ≡ first (number_tests variables groups rest.now) }
+    ensures { wrong_is result ≡ first (number_tests header.variables header.groups rest.now) }
 {
-    if groups < field::word_at(rest, 3) {
-        return 7;
+    if header.groups < field::word_at(rest, 3) {
+        return Err(Cause::OutOfRange);
     }
-    if variables < field::word_at(rest, 5) {
-        return 7;
+    if header.variables < field::word_at(rest, 5) {
+        return Err(Cause::OutOfRange);
     }
     let end = field::size_of(rest);
     let body = &rest[7..end];
-    let inside = field::all_within(body, 1, variables);
+    let inside = field::all_within(body, 1, header.variables);
     let rises = field::is_rising(body);
     if !inside {
-        return 7;
+        return Err(Cause::OutOfRange);
     }
     if !rises {
-        return 8;
+        return Err(Cause::NotRising);
     }
-    0
+    Ok(())
 }
 
-// What is wrong with a clause.
-fn wrong_clause(rest: &[u8], variables: u16, groups: u16, left: u16) -> u8
+// A clause.
+#[tactic(auto, using(answer::proofs::Refusals::in_turn, crate::proofs::Tests::shape_least), unfolding(crate::specs::Reading::wrong_clause))]
+fn test_clause(rest: &[u8], header: Header, left: u16) -> Result<(), Cause>
     requires { size rest.now ≤ length rest.now }
-    ensures { result ≡ wrong_clause variables groups left rest.now }
+    ensures { wrong_is result ≡ wrong_clause header.variables header.groups left rest.now }
 {
-    let number = wrong_shape(rest, left);
-    if number != 0 {
-        return number;
-    }
-    wrong_numbers(rest, variables, groups)
+    test_shape(rest, left)?;
+    test_numbers(rest, header)
 }
 
-// What is wrong with a field after the header.
-fn wrong_field(rest: &[u8], variables: u16, groups: u16, left: u16) -> u8
-    ensures { result ≡ wrong_field variables groups left rest.now }
+// A field after the header.
+#[tactic(auto, using(answer::proofs::Refusals::in_turn), unfolding(answer::specs::Answer::first, crate::specs::Reading::wrong_field))]
+fn test_field(rest: &[u8], header: Header, left: u16) -> Result<(), Cause>
+    ensures wrong { wrong_is result ≡ wrong_field header.variables header.groups left rest.now }
+    ensures fits { OnOk result (size rest.now ≤ length rest.now) }
 {
-    let number = wrong_start(rest);
-    if number != 0 {
-        return number;
+    test_start(rest)?;
+    match rest[0] {
+        0 if field::word_at(rest, 1) != 0 => Err(Cause::BadLength),
+        0 => Ok(()),
+        1 => Err(Cause::HeaderMisplaced),
+        _ => test_clause(rest, header, left),
     }
-    let tag = rest[0];
-    if tag == 1 {
-        return 4;
-    }
-    if tag == 0 {
-        if field::word_at(rest, 1) != 0 {
-            return 5;
-        }
-        return 0;
-    }
-    wrong_clause(rest, variables, groups, left)
 }
 
-// Field by field after the header, which is seven bytes long.
-fn check_fields(book: &[u8], variables: u16, groups: u16) -> Checked
-    requires { (7 ≤ length book.now) × (length book.now ≤ 65535) }
-    ensures { checked_is result ≡ and_then (fields variables groups 2048 7 (drop 7 book.now)) (λ cs. answered (variables ∷ groups ∷ length cs ∷ [])) }
+// Field by field after the header, which is seven bytes long. How many clauses there are.
+fn count_clauses(bytes: &[u8], header: Header) -> Result<u16, Refusal>
+    requires { (7 ≤ length bytes.now) × (length bytes.now ≤ 65535) }
+    ensures { answer_is (λ n. n) result ≡ and_then (fields header.variables header.groups 2048 7 (drop 7 bytes.now)) (λ cs. answered (length cs)) }
 {
-    let mut rest = &book[7..];
-    let mut at: usize = 7;
-    let mut left: u16 = MOST_CLAUSES;
+    let mut rest = &bytes[7..];
+    let mut place: usize = 7;
+    let mut left = MOST_CLAUSES;
     loop {
-        let number = wrong_field(rest, variables, groups, left);
-        if number != 0 {
-            return Checked::Refused { number, place: at };
-        }
+        test_field(rest, header, left).map_err(|cause| cause.at(place))?;
         let size = field::size_of(rest);
         if rest[0] == 0 {
             if size < rest.len() {
-                return Checked::Refused {
-                    number: 9,
-                    place: at + size,
-                };
+                return Err(Cause::BytesAfterEnd.at(place + size));
             }
-            return Checked::Book {
-                variables,
-                groups,
-                clauses: MOST_CLAUSES - left,
-            };
+            return Ok(MOST_CLAUSES - left);
         }
         rest = &rest[size..];
-        at += size;
+        place += size;
         left -= 1;
     }
 }
 
-// Whether some bytes are a rule book: its numbers, or the refusal.
-pub fn check(book: &[u8]) -> Checked
-    ensures { checked_is result ≡ checking book.now }
+// Whether some bytes are a rule book: the book, or the refusal.
+pub fn check(bytes: &[u8]) -> Result<Book<'_>, Refusal>
+    ensures checked { checked_is result ≡ checking bytes.now }
+    ensures same { IfOk result (λ book. book.bytes ≡ bytes.entry) }
 {
-    if MOST_BYTES < book.len() {
-        return Checked::Refused {
-            number: 1,
-            place: 0,
-        };
+    if MOST_BYTES < bytes.len() {
+        return Err(Cause::TooLong.at(0));
     }
-    let number = wrong_header(book);
-    if number != 0 {
-        return Checked::Refused { number, place: 0 };
-    }
-    let variables = field::word_at(book, 3);
-    let groups = field::word_at(book, 5);
-    check_fields(book, variables, groups)
-}
-
-// What stands first in the bytes of an accepted book, after the header. Of a clause: its groups are the numbers from `groups` to the
-// head, which stands before `body`; its body is the part from `body` to `size`; what follows the clause starts at `size`.
-#[derive(Drop)]
-pub enum Front {
-    Clause {
-        groups: usize,
-        head: u16,
-        body: usize,
-        size: usize,
-    },
-    End,
-}
-
-pub fn front_of(rest: &[u8]) -> Front
-    ensures { result ≡ front_of rest.now }
-{
-    if rest.len() < 7 {
-        return Front::End;
-    }
-    Front::Clause {
-        groups: 3,
-        head: field::word_at(rest, 5),
-        body: 7,
-        size: field::size_of(rest),
-    }
+    let header = test_header(bytes).map_err(|cause| cause.at(0))?;
+    let clauses = count_clauses(bytes, header)?;
+    Ok(Book {
+        bytes,
+        variables: header.variables,
+        groups: header.groups,
+        clauses,
+    })
 }

@@ -2,219 +2,125 @@
 // the lines that they must give, from an implementation of its own; it says there how a case is laid out.
 #![tactic(auto)]
 
-ghost use Rattle.std.specs.Prelude.{◌<◌, length};
-
-use answer::Written;
-use book::Checked;
-use signed::Signed;
+use answer::Refusal;
+use book::Book;
+use case_io::Number;
 use std::io::{self, Read, Write};
 
-fn text_book<W: Write>(to: &mut W) -> io::Result<()> {
-    to.write_all(b"book")
-}
-
-fn text_count<W: Write>(to: &mut W) -> io::Result<()> {
-    to.write_all(b"count")
-}
-
-// The signed number of these bits.
-fn signed_of(u: u32) -> i32 {
-    if u < 2147483648 {
-        return u as i32;
-    }
-    -1 - ((4294967295 - u) as i32)
-}
-
-fn next_numbers<R: Read>(input: &mut R, numbers: &mut [i32]) -> io::Result<()> {
-    for number in numbers {
-        *number = signed_of(case_io::next_four(input)?);
-    }
-    Ok(())
-}
-
-fn fill_numbers(out: &mut [i32]) {
-    for k in 0..out.len() {
-        signed::put_plus(case_io::before(k) as u16, out, k);
-    }
-}
-
-fn bits_at(s: &[i32], at: usize) -> u64
-    requires { at < length s.now }
-{
-    match signed::number_at(s, at) {
-        Signed::Plus(n) => n as u64,
-        Signed::Minus(n) => 4294967296 - n as u64,
-    }
-}
-
-fn sum_numbers(s: &[i32]) -> u64 {
-    let mut sum: u64 = 1;
-    for k in 0..s.len() {
-        sum = case_io::added(sum, bits_at(s, k));
-    }
-    sum
-}
-
-fn tell_written<W: Write>(to: &mut W, answer: Written) -> io::Result<()> {
+fn tell_written<W: Write>(to: &mut W, answer: Result<usize, Refusal>) -> io::Result<()> {
     match answer {
-        Written::Count { count } => {
-            text_count(to)?;
+        Ok(count) => {
+            to.write_all(b"count")?;
             case_io::put(to, count as u64)
         }
-        Written::Refused { number, place } => case_io::tell_refused(to, number, place),
+        Err(refusal) => case_io::tell_refused(to, refusal.cause.number(), refusal.place),
     }
 }
 
-fn tell_checked<W: Write>(to: &mut W, answer: Checked) -> io::Result<()> {
+fn tell_checked<W: Write>(to: &mut W, answer: Result<Book<'_>, Refusal>) -> io::Result<()> {
     match answer {
-        Checked::Book {
-            variables,
-            groups,
-            clauses,
-        } => {
-            text_book(to)?;
-            case_io::put(to, variables as u64)?;
-            case_io::put(to, groups as u64)?;
-            case_io::put(to, clauses as u64)
+        Ok(book) => {
+            to.write_all(b"book")?;
+            case_io::put(to, book.variables as u64)?;
+            case_io::put(to, book.groups as u64)?;
+            case_io::put(to, book.clauses as u64)
         }
-        Checked::Refused { number, place } => case_io::tell_refused(to, number, place),
+        Err(refusal) => case_io::tell_refused(to, refusal.cause.number(), refusal.place),
     }
 }
 
 fn run_check<W: Write>(to: &mut W, book: &[u8]) -> io::Result<()> {
     tell_checked(to, book::check(book))?;
-    case_io::end_line(to)
+    tell::end_line(to)
 }
 
 fn run_read<W: Write>(to: &mut W, book: &[u8], out: &mut [i32]) -> io::Result<()> {
-    fill_numbers(out);
+    case_io::fill(out);
     tell_written(to, reader::read(book, out))?;
-    case_io::put(to, sum_numbers(out))?;
-    case_io::end_line(to)
+    case_io::put(to, case_io::sum(out))?;
+    tell::end_line(to)
 }
 
 fn run_write<W: Write>(to: &mut W, plain: &[i32], out: &mut [u8]) -> io::Result<()> {
-    case_io::fill_bytes(out);
+    case_io::fill(out);
     tell_written(to, writer::write(plain, out))?;
-    case_io::put(to, case_io::sum_bytes(out))?;
-    case_io::end_line(to)
+    case_io::put(to, case_io::sum(out))?;
+    tell::end_line(to)
 }
 
-// From `at` to `end`, what stands n places before.
-fn repeat_numbers(n: usize, at: usize, end: usize, buffer: &mut [i32]) {
-    for k in at..end {
-        if buffer.len() <= k {
-            return;
-        }
-        if k < n {
-            return;
-        }
-        buffer[k] = buffer[k - n];
-    }
+// The call of a case.
+#[derive(Clone, Copy)]
+enum Call {
+    Check,
+    Read,
+    Write,
 }
 
-// One run of numbers into a buffer from `at` on: the place after it.
-fn run_of_numbers<R: Read>(input: &mut R, at: usize, buffer: &mut [i32]) -> io::Result<usize> {
-    let total = case_io::next_four(input)? as usize;
-    let n = case_io::next_two(input)?;
-    if 1000000 < at {
-        return Ok(at);
-    }
-    let end = at + n;
-    if buffer.len() < end {
-        return Ok(end);
-    }
-    next_numbers(input, &mut buffer[at..end])?;
-    let last = at + total;
-    repeat_numbers(n, end, last, buffer);
-    Ok(last)
-}
-
-// The next n numbers, which stand as runs, into a buffer.
-fn take_numbers<R: Read>(input: &mut R, n: usize, buffer: &mut [i32]) -> io::Result<()> {
-    let mut at: usize = 0;
-    for _ in 0..100000u32 {
-        if n <= at {
-            return Ok(());
-        }
-        at = run_of_numbers(input, at, buffer)?;
-    }
-    Ok(())
-}
-
-fn run_bytes<W: Write>(
-    to: &mut W,
-    call: u8,
-    n: usize,
+// What a case says before its input: the call, how many elements the input has, and how many the lent space.
+#[derive(Clone, Copy)]
+struct Case {
+    call: Call,
+    len: usize,
     room: usize,
-    bytes: &[u8],
-    space: &mut [i32],
-) -> io::Result<()> {
-    if bytes.len() < n {
-        return Ok(());
-    }
-    if space.len() < room {
-        return Ok(());
-    }
-    if call == 1 {
-        return run_check(to, &bytes[..n]);
-    }
-    run_read(to, &bytes[..n], &mut space[..room])
 }
 
-fn run_numbers<W: Write>(
-    to: &mut W,
-    n: usize,
-    room: usize,
-    plain: &[i32],
-    space: &mut [u8],
-) -> io::Result<()> {
-    if plain.len() < n {
-        return Ok(());
-    }
-    if space.len() < room {
-        return Ok(());
-    }
-    run_write(to, &plain[..n], &mut space[..room])
+// The next call; none at the end of the cases.
+fn next_call<R: Read>(input: &mut R) -> io::Result<Option<Call>> {
+    Ok(match u8::next(input)? {
+        0 => None,
+        1 => Some(Call::Check),
+        3 => Some(Call::Write),
+        _ => Some(Call::Read),
+    })
 }
 
-fn case_of_bytes<R: Read, W: Write>(
-    input: &mut R,
-    to: &mut W,
-    call: u8,
-    n: usize,
-    room: usize,
-) -> io::Result<()> {
+fn next_case<R: Read>(input: &mut R, call: Call) -> io::Result<Case> {
+    Ok(Case {
+        call,
+        len: u32::next(input)? as usize,
+        room: u32::next(input)? as usize,
+    })
+}
+
+// A case that asks for more than the program's own spaces have runs no call.
+fn case_of_bytes<R: Read, W: Write>(input: &mut R, to: &mut W, case: Case) -> io::Result<()> {
     let mut bytes = [0u8; 65600];
     let mut space = [0i32; 80000];
-    case_io::take_bytes(input, n, &mut bytes)?;
-    run_bytes(to, call, n, room, &bytes, &mut space)
+    case_io::take_runs(input, case.len, &mut bytes)?;
+    if bytes.len() < case.len || space.len() < case.room {
+        return Ok(());
+    }
+    let book = &bytes[..case.len];
+    match case.call {
+        Call::Check => run_check(to, book),
+        _ => run_read(to, book, &mut space[..case.room]),
+    }
 }
 
-fn case_of_numbers<R: Read, W: Write>(
-    input: &mut R,
-    to: &mut W,
-    n: usize,
-    room: usize,
-) -> io::Result<()> {
+fn case_of_numbers<R: Read, W: Write>(input: &mut R, to: &mut W, case: Case) -> io::Result<()> {
     let mut plain = [0i32; 80000];
     let mut space = [0u8; 70000];
-    take_numbers(input, n, &mut plain)?;
-    run_numbers(to, n, room, &plain, &mut space)
+    case_io::take_runs(input, case.len, &mut plain)?;
+    if plain.len() < case.len || space.len() < case.room {
+        return Ok(());
+    }
+    run_write(to, &plain[..case.len], &mut space[..case.room])
 }
 
+fn run_case<R: Read, W: Write>(input: &mut R, to: &mut W, call: Call) -> io::Result<()> {
+    let case = next_case(input, call)?;
+    match case.call {
+        Call::Write => case_of_numbers(input, to, case),
+        _ => case_of_bytes(input, to, case),
+    }
+}
+
+// Each program of cases has this loop, since each has calls of its own: one in case_io would take a closure over both streams, and be no shorter.
 fn run_cases<R: Read, W: Write>(input: &mut R, to: &mut W) -> io::Result<()> {
-    for _ in 0..100000u32 {
-        let call = case_io::next_call(input)?;
-        if call == 0 {
-            return Ok(());
-        }
-        let n = case_io::next_four(input)? as usize;
-        let room = case_io::next_four(input)? as usize;
-        if call == 3 {
-            case_of_numbers(input, to, n, room)?;
-        } else {
-            case_of_bytes(input, to, call, n, room)?;
+    for _ in 0..case_io::MOST_CASES {
+        match next_call(input)? {
+            Some(call) => run_case(input, to, call)?,
+            None => return Ok(()),
         }
     }
     Ok(())

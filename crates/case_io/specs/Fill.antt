@@ -1,30 +1,24 @@
 -- Lent space before a call, and the checksum of it after the call.
 --   start_at k      the byte that stands at place k before a call
---   filled n       a space of n bytes before a call
 --   word_at k       the word that stands at place k before a call: never 0, so that a word that was not cleared shows
---   words n        a space of n words before a call
+--   filled start n      a space of n elements before a call, of which `start k` stands at place k
 --   one_more s e    the checksum s with one element more
---   sum_from s es   the checksum s with the elements es more; that of a space begins at 1
+--   checksum value es   the checksum of a space of the elements es, where an element e counts as `value e`; it begins at 1
 -- Assumes nothing: these are definitions.
-use Rattle.std.specs.Prelude.{ℕ, zero, suc, ◌+◌, ◌*◌, ◌%◌, List, [], ◌∷◌, ◌++◌}
+use Rattle.std.specs.Prelude.{ℕ, ◌+◌, ◌*◌, ◌%◌, List, map, fold}
+use Rattle.std.specs.List.{range_with_len}
 
 abbrev pub start_at : ℕ → ℕ
 start_at k = (k % 251 * 7 + 3) % 251
 
-unfoldable pub filled : ℕ → List ℕ
-filled zero = []
-filled (suc n) = filled n ++ start_at n ∷ []
-
 abbrev pub word_at : ℕ → ℕ
 word_at k = (k % 65535 * 7919 + 65534) % 65535 + 1
 
-unfoldable pub words : ℕ → List ℕ
-words zero = []
-words (suc n) = words n ++ word_at n ∷ []
+abbrev pub filled : {A : Type 0} → (ℕ → A) → ℕ → List A
+filled start n = map start (range_with_len 0 n)
 
 abbrev pub one_more : ℕ → ℕ → ℕ
 one_more s e = (s % 65521 * 31 + e % 4294967296) % 65521
 
-unfoldable pub sum_from : ℕ → List ℕ → ℕ
-sum_from s [] = s
-sum_from s (e ∷ es) = sum_from (one_more s e) es
+abbrev pub checksum : {A : Type 0} → (A → ℕ) → List A → ℕ
+checksum value es = fold (λ s e. one_more s (value e)) 1 es

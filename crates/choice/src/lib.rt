@@ -1,4 +1,5 @@
 // A choice of groups in a word of 32 bits: how wide it is, is known here. Groups are counted from 0: group g + 1 of the book adds 2 ^ g.
+// A group is a plain number here: callers count it up and down, and index by it; a type for it would be opened at each of these places.
 #![tactic(auto)]
 
 ghost use Rattle.std.specs.Prelude.{◌≡◌, ◌≢◌, not, suc, ◌-◌, ◌*◌, ◌/◌, ◌^◌, ◌≤◌, ◌<◌, eqb, ltb};
@@ -6,17 +7,17 @@ ghost use Rattle.meaning.specs.Choice.{digit};
 ghost use Rattle.choice.specs.Groups.{width, Highest};
 
 // The most groups that a choice can have.
-const WIDTH: u32 = 32;
+const WIDTH: u32 = u32::BITS;
 
 // The same as a size.
-pub const PLACES: usize = 32;
+pub const PLACES: usize = WIDTH as usize;
 
 // The choice of one group.
 pub fn bit(g: u32) -> u32
     requires { g < width }
     ensures { result ≡ 2 ^ g }
 {
-    1u32 << g
+    1 << g
 }
 
 // Whether a choice has a group.
@@ -32,10 +33,7 @@ pub fn all(n: u32) -> u32
     requires { n ≤ width }
     ensures { result ≡ 2 ^ n - 1 }
 {
-    if WIDTH <= n {
-        return !0u32;
-    }
-    bit(n) - 1
+    if n < WIDTH { bit(n) - 1 } else { u32::MAX }
 }
 
 // Whether a word names a group beyond n.
@@ -51,7 +49,7 @@ pub fn highest(x: u32, n: u32) -> u32
     requires { (n ≤ width) × (x < 2 ^ n) × (x ≢ 0) }
     ensures { (result < n) × Highest x result }
 {
-    WIDTH - 1 - u32::leading_zeros(x)
+    x.ilog2()
 }
 
 // The groups of a choice above one.

@@ -2,7 +2,7 @@
 --   Scanning       the invariant of the loop: what was found of the literals before t, and what they left in the words
 --   Scanned v rest old s new      what scanning answers and leaves
 --   scan_start     nothing was found yet
---   scan_none, scan_zero, scan_open      t has no literal in front; a 0 and nothing after it; a 0 and something after it
+--   scan_none, scan_end, scan_open      t has no literal in front; a 0 and nothing after it; a 0 and something after it
 --   scan_head, scan_body      t has a positive literal in front; a negative one
 --   scan_count, scan_rising   how many words were put in, at most; they rise
 -- Assumes nothing.
@@ -16,6 +16,7 @@ use lib.ListN.{length, get_or, take, drop}
 use lib.Seq.{take_at}
 use lib.Dec.{ltb, leb, eqb}
 use borrow.Author.Tests.{ltb-true, ltb-false, le-leb, lt-leb, eq-eqb, ne_eqb, eqb-true, eqb-false}
+use Rattle.std.specs.Prelude.{Option, None, Some}
 use Rattle.answer.specs.Space.{over}
 use Rattle.answer.proofs.Spaces.{over_over}
 use Rattle.field.specs.Words.{within, rising}
@@ -26,10 +27,9 @@ use Rattle.text.specs.Forms.{none, literals, closed}
 use Rattle.text.specs.Taking.{heads, bodies, head_in, each}
 use Rattle.line.specs.Starts.{next_literal}
 use Rattle.line.specs.declared.Literal.TheVariants as LiteralV
-use Rattle.line.proofs.Starts.{literal_none, literal_zero, literal_head, literal_body}
+use Rattle.line.proofs.Starts.{literal_none, literal_end, literal_head, literal_body}
 use Rattle.clause_line.specs.Steps.{capped, enough, inserted_of, kept, kept_of, beyond, literals_of, scan_of}
 use Rattle.clause_line.specs.declared.Scan.{Scan}
-use Rattle.clause_line.specs.declared.Scan.TheVariants as ScanV
 use Rattle.clause_line.proofs.Places.{Inserted}
 use Rattle.clause_line.proofs.Kept.{inserted_more, kept_append, kept_rising, kept_most}
 use Rattle.clause_line.proofs.Capped.{cap_some, heads_minus, bodies_minus, capped_minus}
@@ -161,37 +161,30 @@ headed (d ∷ ds) h n h' l e s f g =
       some = λ z. absurd (a z);
     }
 
--- ---- the loop: `rest` is the line from the beginning, t from here on
-pub record Scanning (v : ℕ) (rest t old body : List ℕ) (far several : Bool) (h count : ℕ) : Type 0 where
+same_scan : (b b' d d' : Bool) (h h' c c' : ℕ) → b ≡ b' → d ≡ d' → h ≡ h' → c ≡ c'
+    → ◌≡◌ {A = Scan} (record { beyond = b; several = d; head = h; count = c }) (record { beyond = b'; several = d'; head = h'; count = c' })
+same_scan b b' d d' h h' c c' p q r s = rw (p, q, r, s)
+
+-- ---- the loop: `rest` is the line from the beginning, t from here on, and s is what was found so far
+pub record Scanning (v : ℕ) (rest t old body : List ℕ) (s : Scan) : Type 0 where
   pub done : List ℤ
   pub split : capped (literals (tokens rest)) ≡ done ++ capped (literals (tokens t))
   pub ending : closed (tokens rest) ≡ closed (tokens t)
-  pub is_far : far ≡ beyond v done
-  pub is_several : several ≡ not (each (head_in done) (heads done))
-  pub is_head : h ≡ head_in done
+  pub is_found : s ≡ literals_of v done
   pub some : head_in done ≡ 0 → heads done ≡ []
-  pub is_count : count ≡ length (kept_of done)
   pub is_body : body ≡ over (kept_of done) old
 
-abbrev pub Scanned : ℕ → List ℕ → List ℕ → Scan → List ℕ → Type 0
+abbrev pub Scanned : ℕ → List ℕ → List ℕ → Option Scan → List ℕ → Type 0
 Scanned v rest old s new = (s ≡ scan_of v (tokens rest)) × (new ≡ over (kept_of (capped (literals (tokens rest)))) old)
 
-pub scan_start : (v : ℕ) (rest old : List ℕ) → Scanning v rest rest old old false false 0 0
-unfolding beyond within each heads bodies kept
-scan_start v rest old =
-    record {
-      done = [];
-      split = refl;
-      ending = refl;
-      is_far = refl;
-      is_several = refl;
-      is_head = refl;
-      some = λ e. refl;
-      is_count = refl;
-      is_body = refl;
-    }
+abbrev pub nothing : Scan
+nothing = record { beyond = false; several = false; head = 0; count = 0 }
 
-module _ (v : ℕ) (rest t old body : List ℕ) (far several : Bool) (h count : ℕ) (S : Scanning v rest t old body far several h count) where
+pub scan_start : (v : ℕ) (rest old : List ℕ) → Scanning v rest rest old old nothing
+unfolding beyond within each heads bodies kept
+scan_start v rest old = record { done = []; split = refl; ending = refl; is_found = refl; some = λ e. refl; is_body = refl }
+
+module _ (v : ℕ) (rest t old body : List ℕ) (s : Scan) (S : Scanning v rest t old body s) where
   -- where no literal is left, what was found is all
   all : literals (tokens t) ≡ [] → capped (literals (tokens rest)) ≡ S.done
   unfolding capped
@@ -200,40 +193,43 @@ module _ (v : ℕ) (rest t old body : List ℕ) (far several : Bool) (h count : 
   left : literals (tokens t) ≡ [] → body ≡ over (kept_of (capped (literals (tokens rest)))) old
   left e = S.is_body ∙ ap (λ (zs : List ℤ). over (kept_of zs) old) (sym (all e))
 
-  formless : literals (tokens t) ≡ [] → closed (tokens t) ≡ false → Scanned v rest old ScanV.Formless body
+  formless : literals (tokens t) ≡ [] → closed (tokens t) ≡ false → Scanned v rest old None body
   unfolding scan_of
   formless e f = (sym (rw (S.ending ∙ f)), left e)
 
-  pub scan_none : next_literal t ≡ LiteralV.None → Scanned v rest old ScanV.Formless body
+  pub scan_none : next_literal t ≡ None → Scanned v rest old None body
   scan_none e = let q = literal_none t e in formless q.0 q.1
 
-  module _ (next : ℕ) (zero_next : next_literal t ≡ LiteralV.Zero next) (blank : Bool) (is : blank ≡ none (tokens (take (length t - next) (drop next t)))) where
+  module _ (next : ℕ) (end_next : next_literal t ≡ Some (LiteralV.End, next)) (blank : Bool) (is : blank ≡ none (tokens (take (length t - next) (drop next t)))) where
     closes : closed (tokens t) ≡ blank
-    closes = (literal_zero t next zero_next).2 ∙ ap (λ (u : List ℕ). none (tokens u)) (sym (part_end t next)) ∙ sym is
+    closes = (literal_end t next end_next).2 ∙ ap (λ (u : List ℕ). none (tokens u)) (sym (part_end t next)) ∙ sym is
 
-    pub scan_open : blank ≡ false → Scanned v rest old ScanV.Formless body
-    scan_open e = formless (literal_zero t next zero_next).1 (closes ∙ e)
+    pub scan_open : blank ≡ false → Scanned v rest old None body
+    scan_open e = formless (literal_end t next end_next).1 (closes ∙ e)
 
-    pub scan_zero : blank ≡ true → Scanned v rest old (ScanV.Literals far several h count) body
+    pub scan_end : blank ≡ true → Scanned v rest old (Some s) body
     unfolding scan_of
-    scan_zero e =
-        let a = (literal_zero t next zero_next).1 in
-        let f = S.is_far in
-        let s = S.is_several in
-        let i = S.is_head in
-        let c = S.is_count in
-        let m : ScanV.Literals far several h count ≡ literals_of v S.done = cc in
-        (m ∙ ap (literals_of v) (sym (all a)) ∙ sym (rw (S.ending ∙ (closes ∙ e))), left a)
+    scan_end e =
+        let a = (literal_end t next end_next).1 in
+        (ap Some (S.is_found ∙ ap (literals_of v) (sym (all a))) ∙ sym (rw (S.ending ∙ (closes ∙ e))), left a)
 
-  pub scan_head : (n next : ℕ) → next_literal t ≡ LiteralV.Head n next → (h' : ℕ) → (h ≡ 0 → h' ≡ n) → ((h ≡ 0 → ⊥) → h' ≡ h)
-      → Scanning v rest (take (length t - next) (drop next t)) old body (far || ltb v n) (several || not (eqb h' n)) h' count
+  pub scan_head : (n next : ℕ) → next_literal t ≡ Some (LiteralV.Head n, next) → (h : ℕ) → (s.head ≡ 0 → h ≡ n) → ((s.head ≡ 0 → ⊥) → h ≡ s.head)
+      → Scanning v rest (take (length t - next) (drop next t)) old body (record { beyond = s.beyond || ltb v n; several = s.several || not (eqb h n); head = h; count = s.count })
   unfolding capped
-  scan_head n next e h' f g =
+  scan_head n next e h f g =
       let w = literal_head t n next e in
       let z = S.done in
       let one : 1 ≤ n = subst (λ (m : ℕ). 1 ≤ m) (sym w.told) (cap_some w.number w.some) in
-      let d = headed (heads z) h n h' one S.is_head S.some f g in
+      let is_far = ap (λ (x : Scan). x.beyond) S.is_found in
+      let is_several = ap (λ (x : Scan). x.several) S.is_found in
+      let is_head = ap (λ (x : Scan). x.head) S.is_found in
+      let is_count = ap (λ (x : Scan). x.count) S.is_found in
+      let d = headed (heads z) s.head n h one is_head S.some f g in
       let q = heads_next v n z one in
+      let p1 = ap (λ (b : Bool). b || ltb v n) is_far ∙ far_head v n z one in
+      let p2 = ap (λ (b : Bool). b || not (eqb h n)) is_several ∙ d.several ∙ ap (λ (hs : List ℕ). not (each (get_or hs 0 0) hs)) (sym q) in
+      let p3 = d.head ∙ ap (λ (hs : List ℕ). get_or hs 0 0) (sym q) in
+      let p4 = is_count ∙ ap length (sym (kept_stay v n z one)) in
       rw (part_end t next)
       (record {
         done = z ++ (pos n ∷ []);
@@ -243,33 +239,35 @@ module _ (v : ℕ) (rest t old body : List ℕ) (far several : Bool) (h count : 
             ∙ ap (λ (m : ℕ). z ++ (pos m ∷ capped (literals (tokens (drop next t))))) (sym w.told)
             ∙ sym (append_assoc z (pos n ∷ []) (capped (literals (tokens (drop next t)))));
         ending = S.ending ∙ w.ending;
-        is_far = ap (λ (b : Bool). b || ltb v n) S.is_far ∙ far_head v n z one;
-        is_several = ap (λ (b : Bool). b || not (eqb h' n)) S.is_several ∙ d.several ∙ ap (λ (hs : List ℕ). not (each (get_or hs 0 0) hs)) (sym q);
-        is_head = d.head ∙ ap (λ (hs : List ℕ). get_or hs 0 0) (sym q);
+        is_found = same_scan _ _ _ _ _ _ _ _ p1 p2 p3 p4;
         some = λ y. q ∙ d.some (ap (λ (hs : List ℕ). get_or hs 0 0) (sym q) ∙ y);
-        is_count = S.is_count ∙ ap length (sym (kept_stay v n z one));
         is_body = S.is_body ∙ ap (λ (ws : List ℕ). over ws old) (sym (kept_stay v n z one));
       })
 
   -- the words that were put in
-  put : take count body ≡ kept_of S.done
-  put = ap (take count) S.is_body ∙ take_at (kept_of S.done) (drop (length (kept_of S.done)) old) count (sym S.is_count)
+  put : take s.count body ≡ kept_of S.done
+  put =
+      ap (take s.count) S.is_body ∙ take_at (kept_of S.done) (drop (length (kept_of S.done)) old) s.count (sym (ap (λ (x : Scan). x.count) S.is_found))
 
-  pub scan_count : count ≤ enough
-  scan_count = omega (arith, S.is_count, kept_most S.done)
+  pub scan_count : s.count ≤ enough
+  scan_count = omega (arith, ap (λ (x : Scan). x.count) S.is_found, kept_most S.done)
 
-  pub scan_rising : rising 0 (take count body) ≡ true
+  pub scan_rising : rising 0 (take s.count body) ≡ true
   scan_rising = ap (rising 0) put ∙ kept_rising S.done
 
-  pub scan_body : (n next : ℕ) → next_literal t ≡ LiteralV.Body n next → (count' : ℕ) (body' : List ℕ) → Inserted body count n count' body'
-      → Scanning v rest (take (length t - next) (drop next t)) old body' (far || ltb v n) several h count'
-  scan_body n next e count' body' p =
+  pub scan_body : (n next : ℕ) → next_literal t ≡ Some (LiteralV.Body n, next) → (count : ℕ) (body' : List ℕ) → Inserted body s.count n count body'
+      → Scanning v rest (take (length t - next) (drop next t)) old body' (record { beyond = s.beyond || ltb v n; several = s.several; head = s.head; count = count })
+  scan_body n next e count body' p =
       let w = literal_body t n next e in
       let z = S.done in
       let one : 1 ≤ n = subst (λ (m : ℕ). 1 ≤ m) (sym w.told) (cap_some w.number w.some) in
       let q = heads_stay v n z one in
-      let i : inserted_of (take count body) n ≡ kept_of (z ++ (minus n ∷ [])) = ap (λ (ws : List ℕ). inserted_of ws n) put ∙ sym (kept_next v n z one) in
+      let i : inserted_of (take s.count body) n ≡ kept_of (z ++ (minus n ∷ [])) = ap (λ (ws : List ℕ). inserted_of ws n) put ∙ sym (kept_next v n z one) in
       let m : length (kept_of z) ≤ length (kept_of (z ++ (minus n ∷ []))) = omega (arith, inserted_more (kept_of z) n, ap length (kept_next v n z one)) in
+      let p1 = ap (λ (x : Scan). x.beyond || ltb v n) S.is_found ∙ far_body v n z one in
+      let p2 = ap (λ (x : Scan). x.several) S.is_found ∙ ap (λ (hs : List ℕ). not (each (get_or hs 0 0) hs)) (sym q) in
+      let p3 = ap (λ (x : Scan). x.head) S.is_found ∙ ap (λ (hs : List ℕ). get_or hs 0 0) (sym q) in
+      let p4 = p.0 ∙ ap length i in
       rw (part_end t next)
       (record {
         done = z ++ (minus n ∷ []);
@@ -280,11 +278,8 @@ module _ (v : ℕ) (rest t old body : List ℕ) (far several : Bool) (h count : 
             ∙ ap (λ (k : ℕ). z ++ (minus k ∷ capped (literals (tokens (drop next t))))) (sym w.told)
             ∙ sym (append_assoc z (minus n ∷ []) (capped (literals (tokens (drop next t)))));
         ending = S.ending ∙ w.ending;
-        is_far = ap (λ (b : Bool). b || ltb v n) S.is_far ∙ far_body v n z one;
-        is_several = S.is_several ∙ ap (λ (hs : List ℕ). not (each (get_or hs 0 0) hs)) (sym q);
-        is_head = S.is_head ∙ ap (λ (hs : List ℕ). get_or hs 0 0) (sym q);
+        is_found = same_scan _ _ _ _ _ _ _ _ p1 p2 p3 p4;
         some = λ y. q ∙ S.some (ap (λ (hs : List ℕ). get_or hs 0 0) (sym q) ∙ y);
-        is_count = p.0 ∙ ap length i;
         is_body =
             p.1 ∙ ap (λ (ws : List ℕ). over ws body) i ∙ ap (over (kept_of (z ++ (minus n ∷ [])))) S.is_body
             ∙ over_over (kept_of (z ++ (minus n ∷ []))) (kept_of z) old m;

@@ -7,16 +7,20 @@
 --   kept_of zs              the body of some literals, up to 33 numbers
 --   beyond v zs            a literal is beyond v variables
 --   literals_of v zs        what is found of some literals
---   scan_of v ts            the literals of a clause, by its tokens after the group
+--   scan_of v ts            the literals of a clause, by its tokens after the group, if these end as a clause does
 --   found_tests far several left count      what is tested of a clause, by what was found: something far, that is beyond the groups or the variables; several heads
---   step_unless n s         a step, unless a refusal stands against it
+--   told r                  a result, with the refusal's number in place of its cause
+--   step_unless n r         a result, unless a refusal stands against it
 --   step_from g left k s    what a clause of group k adds, by what its literals were found to be
---   step_of v g left l      what line l adds, where there are v variables and g groups and room is left for so many clauses
+--   step_of v g left l      what line l adds, nothing or a clause, where there are v variables and g groups and room is left for so many clauses
 --   body_from s l old       the words for the body, after a line that begins as s
 --   body_after l old        the words for the body, after line l
 -- Assumes nothing: these are definitions.
-use Rattle.std.specs.Prelude.{ℕ, zero, suc, List, [], ◌∷◌, ◌++◌, Bool, not, ◌||◌, cond, ℤ, pos, negsuc, length, take, drop, ltb, eqb}
+use Rattle.std.specs.Prelude.{ℕ, zero, suc, List, [], ◌∷◌, ◌++◌, Bool, not, ◌||◌, cond, Option, None, Some, Result, Ok, Err, ℤ, pos, negsuc, length, take, drop, ltb, eqb}
+use Rattle.std.specs.Result.{result_map_both}
 use Rattle.answer.specs.Answer.{Test, ◌⇒◌, first}
+use Rattle.answer.specs.Refusals.{number_of}
+use Rattle.answer.specs.declared.Cause.{Cause}
 use Rattle.answer.specs.Space.{over}
 use Rattle.field.specs.Words.{within}
 use Rattle.book.specs.Bytes.{most_body}
@@ -29,9 +33,7 @@ use Rattle.line.specs.Starts.{start_of}
 use Rattle.line.specs.declared.Start.{Start}
 use Rattle.line.specs.declared.Start.TheVariants as StartV
 use Rattle.clause_line.specs.declared.Scan.{Scan}
-use Rattle.clause_line.specs.declared.Scan.TheVariants as ScanV
-use Rattle.clause_line.specs.declared.Step.{Step}
-use Rattle.clause_line.specs.declared.Step.TheVariants as StepV
+use Rattle.clause_line.specs.declared.Clause.{Clause}
 
 unfoldable pub capped : List ℤ → List ℤ
 capped [] = []
@@ -62,33 +64,37 @@ unfoldable pub beyond : ℕ → List ℤ → Bool
 beyond v zs = not (within 1 v (heads zs)) || not (within 1 v (bodies zs))
 
 abbrev pub literals_of : ℕ → List ℤ → Scan
-literals_of v zs = ScanV.Literals (beyond v zs) (not (each (head_in zs) (heads zs))) (head_in zs) (length (kept_of zs))
+literals_of v zs = record { beyond = beyond v zs; several = not (each (head_in zs) (heads zs)); head = head_in zs; count = length (kept_of zs) }
 
-unfoldable pub scan_of : ℕ → List (List ℕ) → Scan
-scan_of v ts = cond (closed ts) (literals_of v (capped (literals ts))) ScanV.Formless
+unfoldable pub scan_of : ℕ → List (List ℕ) → Option Scan
+scan_of v ts = cond (closed ts) (Some (literals_of v (capped (literals ts)))) None
 
-unfoldable pub step_unless : ℕ → Step → Step
-step_unless zero s = s
-step_unless (suc n) s = StepV.Wrong (suc n)
+abbrev pub told : {A : Type 0} → Result A Cause → Result A ℕ
+told r = result_map_both (λ a. a) number_of r
+
+unfoldable pub step_unless : {A : Type 0} → ℕ → Result A ℕ → Result A ℕ
+step_unless zero r = r
+step_unless (suc n) r = Err (suc n)
 
 abbrev pub found_tests : Bool → Bool → ℕ → ℕ → List Test
 found_tests far several left count = (far ⇒ 7) ∷ (several ⇒ 20) ∷ (eqb left 0 ⇒ 6) ∷ (ltb most_body count ⇒ 5) ∷ []
 
-unfoldable pub step_from : ℕ → ℕ → ℕ → Scan → Step
-step_from g left k ScanV.Formless = StepV.Wrong 22
-step_from g left k (ScanV.Literals far several h n) = step_unless (first (found_tests (ltb g k || far) several left n)) (StepV.Clause k h n)
+unfoldable pub step_from : ℕ → ℕ → ℕ → Option Scan → Result Clause ℕ
+step_from g left k None = Err 22
+step_from g left k (Some s) =
+    step_unless (first (found_tests (ltb g k || s.beyond) s.several left s.count)) (Ok (record { group = k; head = s.head; count = s.count }))
 
-unfoldable pub step_of : ℕ → ℕ → ℕ → List ℕ → Step
+unfoldable pub step_of : ℕ → ℕ → ℕ → List ℕ → Result (Option Clause) ℕ
 step_of v g left l =
-    by_form (line_of l) StepV.Skipped (λ v' n' g'. StepV.Wrong 22)
-    (λ k zs. step_unless (first (clause_tests v g left k zs)) (StepV.Clause k (head_in zs) (length (body_in zs))))
-    (StepV.Wrong 22)
+    by_form (line_of l) (Ok None) (λ v' n' g'. Err 22)
+    (λ k zs. step_unless (first (clause_tests v g left k zs)) (Ok (Some (record { group = k; head = head_in zs; count = length (body_in zs) }))))
+    (Err 22)
 
-unfoldable pub body_from : Start → List ℕ → List ℕ → List ℕ
-body_from StartV.Skipped l old = old
-body_from (StartV.Heading v n g) l old = old
-body_from (StartV.Clause k next) l old = over (kept_of (capped (literals (tokens (drop next l))))) old
-body_from StartV.Formless l old = old
+unfoldable pub body_from : Option Start → List ℕ → List ℕ → List ℕ
+body_from (Some (StartV.Clause k next)) l old = over (kept_of (capped (literals (tokens (drop next l))))) old
+body_from (Some StartV.Skipped) l old = old
+body_from (Some (StartV.Heading h)) l old = old
+body_from None l old = old
 
 unfoldable pub body_after : List ℕ → List ℕ → List ℕ
 body_after l old = body_from (start_of l) l old

@@ -2,14 +2,20 @@
 --   number_low, number_high     a number of one digit, and of more
 --   high_room                   its digits above the last are one fewer
 --   number_length               a number below 10 ^ k has at most k digits
+--   number_power                a number from 10 ^ k on has more than k
+--   number_log                  the digits of a number, from the power of 10 at or below it; 0 has one, as 1 has
+--   decimal_number              std's digits of a number are these
 -- Assumes nothing.
-use Prim.Native.Nat.{ℕ, zero, suc, ◌+◌, ◌/◌, ◌%◌, ◌^◌, ◌≤◌, ◌<◌}
+use Prim.Native.Nat.{ℕ, zero, suc, max, ◌+◌, ◌*◌, ◌/◌, ◌%◌, ◌^◌, ◌≤◌, ◌<◌}
 use mathlib.Core.Path.{◌≡◌, sym, ap, ◌∙◌}
 use mathlib.Core.List.{List, [], ◌∷◌, ◌++◌}
 use native.Mathlib.Omega.{arith}
 use native.Mathlib.Decide.{dec_lt}
+use native.Mathlib.Nat.{one-le-pow}
 use lib.ListN.{length, length-append}
 use borrow.Author.Tests.{lt-ltb, le-ltb}
+use Rattle.std.specs.Fmt.{decimal}
+use Rattle.std.proofs.lemmas.Fmt.{decimal_by_steps}
 use Rattle.decimal.specs.Digits.{digits_in, number}
 
 digits_low : (f n : ℕ) → n < 10 → digits_in (suc f) n ≡ (48 + n) ∷ []
@@ -51,3 +57,24 @@ number_length (suc k) n h = go (dec_lt n 10) (number_length k (n / 10))
         let l : 10 ≤ n = omega arith in
         let m : n / 10 < 10 ^ suc k = omega (arith, h) in
         omega (arith, ih m, high_room n l)
+
+pub number_power : (k n : ℕ) → 10 ^ k ≤ n → k < length (number n)
+number_power zero n h = go (dec_lt n 10)
+  where
+    go : Dec (n < 10) → 0 < length (number n)
+    go (yes l) = omega (arith, ap length (number_low n l))
+    go (no z) = omega (arith, high_room n (omega arith))
+number_power (suc k) n h =
+    let m : 10 ^ k ≤ n / 10 = omega (arith, h) in
+    let l : 10 ≤ n = omega (arith, h, one-le-pow k 10 (omega arith)) in
+    omega (arith, number_power k (n / 10) m, high_room n l)
+
+pub number_log : (n d : ℕ) → 10 ^ d ≤ max n 1 → max n 1 < 10 * 10 ^ d → d + 1 ≡ length (number n)
+number_log n d low high = go (dec_lt n 1)
+  where
+    go : Dec (n < 1) → d + 1 ≡ length (number n)
+    go (yes l) = omega (arith, number_power d 1 (omega (arith, low)), ap length (number_low 1 (omega arith)), ap length (number_low n (omega arith)))
+    go (no z) = omega (arith, number_power d n (omega (arith, low)), number_length d n (omega (arith, high)))
+
+pub decimal_number : (n : ℕ) → n < 2 ^ 64 → decimal n ≡ number n
+decimal_number = decimal_by_steps (λ (n : ℕ) (ds : List ℕ). ds ≡ number n) (λ n h. sym (number_low n h)) (λ n ds h e. ap (λ (xs : List ℕ). xs ++ ((48 + n % 10) ∷ [])) e ∙ sym (number_high n h))

@@ -1,33 +1,48 @@
 -- Writing numbers and lines, part by part.
 --   wrote_as                    the same bytes, said otherwise
---   put_low, put_high           a number of one digit, and of more
+--   put_digits                  a number, from the place after it back
 --   put_blank                   a blank and a number
---   text_more, text_end         what is left of a text
+--   put_copied                  a text in the place of as many bytes
 --   line_wrote                  a word, what follows it, and a line feed
 --   line_length                 how long a line is
 -- Assumes nothing.
-use Prim.Native.Nat.{ℕ, ◌+◌, ◌/◌, ◌%◌, ◌≤◌, ◌<◌}
-use mathlib.Core.Path.{◌≡◌, sym, ap, ◌∙◌, subst}
-use mathlib.Core.List.{List, [], ◌∷◌, ◌++◌}
+use Prim.Native.Nat.{ℕ, ◌+◌, ◌-◌, ◌^◌, ◌≤◌, ◌<◌}
+use mathlib.Core.Path.{◌≡◌, refl, sym, ap, ◌∙◌, subst}
+use mathlib.Core.List.{List, [], ◌∷◌, ◌++◌, append_assoc}
 use native.Mathlib.Omega.{arith}
-use native.Mathlib.Numerals.{add-one}
-use lib.ListN.{length, length-append, get_or, drop, drop_of_length-le}
-use lib.Seq.{drop-cons}
+use lib.ListN.{length, length-append, take, drop, take-append-drop}
+use Rattle.std.specs.Fmt.{decimal}
+use Rattle.std.proofs.lemmas.Slice.{put_mid-paste}
+use borrow.Rule.Slice.PartMut.{put_mid}
+use lib.Seq.{sets-eq, take-length}
 use Rattle.answer.specs.Space.{Wrote}
 use Rattle.answer.proofs.Spaces.{wrote_append}
 use Rattle.decimal.specs.Digits.{number, after, line}
-use Rattle.decimal.proofs.Digits.{number_low, number_high}
+use Rattle.decimal.proofs.Digits.{decimal_number}
 
 module _ (l : List ℕ) (i : ℕ) where
   pub wrote_as : (xs ys o : List ℕ) (j : ℕ) → xs ≡ ys → Wrote l i xs o j → Wrote l i ys o j
   wrote_as xs ys o j e w = subst (λ (zs : List ℕ). Wrote l i zs o j) e w
 
-  module _ (n : ℕ) where
-    pub put_low : (o : List ℕ) (j : ℕ) → n < 10 → Wrote l i ((48 + n) ∷ []) o j → Wrote l i (number n) o j
-    put_low o j h w = wrote_as _ _ o j (sym (number_low n h)) w
+  pub put_copied : (text part : List ℕ) → part ≡ text → i + length text ≤ length l → Wrote l i text (put_mid i (i + length text - i) l part) (i + length text)
+  put_copied text part e h =
+      record {
+        place = refl;
+        list = put_mid-paste i _ l part text (length text) e (omega arith) refl ∙ ap (λ (ys : List ℕ). take i l ++ ys ++ drop (i + length text) l) (take-length text) ∙ sym (sets-eq text l i h);
+      }
 
-    pub put_high : (o : List ℕ) (j : ℕ) (p : List ℕ) (k : ℕ) → 10 ≤ n → Wrote l i (number (n / 10)) o j → Wrote o j ((48 + n % 10) ∷ []) p k → Wrote l i (number n) p k
-    put_high o j p k h u w = wrote_as _ _ p k (sym (number_high n h)) (wrote_append l i _ o j _ p k u w)
+  module _ (n : ℕ) where
+    pub put_digits : (o : List ℕ) (r k : ℕ) → n < 2 ^ 64 → k ≡ length (number n) → i + length (number n) ≤ length l
+        → r + length (decimal n) ≡ i + k → drop r o ≡ decimal n ++ drop (i + k) l → take r o ≡ take r l → Wrote l i (number n) o (i + k)
+    put_digits o r k f e h start written before =
+        let d = decimal_number n f in
+        let p : r ≡ i = omega (arith, start, e, ap length d) in
+        record {
+          place = omega (arith, e);
+          list =
+              sym (take-append-drop r o) ∙ ap (λ (xs : List ℕ). xs ++ drop r o) before ∙ ap (λ (xs : List ℕ). take r l ++ xs) written
+              ∙ rw (p, d, e) (sym (append_assoc (take i l) (number n) (drop (i + length (number n)) l)) ∙ sym (sets-eq (number n) l i h));
+        }
 
     pub put_blank : (o : List ℕ) (j : ℕ) (p : List ℕ) (k : ℕ) → Wrote l i (32 ∷ []) o j → Wrote o j (number n) p k → Wrote l i (after n) p k
     put_blank o j p k u w = wrote_append l i (32 ∷ []) o j (number n) p k u w
@@ -36,13 +51,6 @@ module _ (l : List ℕ) (i : ℕ) where
       → Wrote l i word o a → Wrote o a rest p b → Wrote p b (10 ∷ []) q c → Wrote l i (line word rest) q c
   unfolding line
   line_wrote word o a rest p b q c u v w = wrote_append l i word o a (rest ++ (10 ∷ [])) q c u (wrote_append o a rest p b (10 ∷ []) q c v w)
-
-module _ (text : List ℕ) (k : ℕ) where
-  pub text_more : k < length text → drop k text ≡ (get_or text k 0 ∷ []) ++ drop (k + 1) text
-  text_more h = drop-cons text k 0 h ∙ ap (λ (j : ℕ). get_or text k 0 ∷ drop j text) (sym (add-one k))
-
-  pub text_end : length text ≤ k → drop k text ≡ []
-  text_end h = drop_of_length-le text h
 
 pub line_length : (word rest : List ℕ) → length (line word rest) ≡ length word + length rest + 1
 unfolding line

@@ -1,4 +1,5 @@
-// Numbers in decimal digits, and bytes, written into lent bytes. A call that writes gives the place after what it wrote.
+// Numbers in decimal digits, and bytes, written into lent bytes. A call that writes gives the place after what it wrote. Bytes and place go as
+// two arguments, not as a struct: callers lend the whole of their space, write at places of their own, and speak of both in their contracts.
 #![tactic(auto)]
 
 ghost use Rattle.std.specs.Prelude.{◌≡◌, [], ◌∷◌, suc, ◌+◌, ◌≤◌, ◌<◌, length};
@@ -19,13 +20,9 @@ pub fn put_text(text: &[u8], out: &mut [u8], at: usize) -> usize
     requires { at + length text.now ≤ length out.old }
     ensures { Wrote out.old at text.now out.new result }
 {
-    let mut i = at;
-    let mut k: usize = 0;
-    while k < text.len() {
-        i = put_byte(text[k], out, i);
-        k += 1;
-    }
-    i
+    let end = at + text.len();
+    out[at..end].copy_from_slice(text);
+    end
 }
 
 // A number in decimal.
@@ -33,11 +30,9 @@ pub fn put_number(n: usize, out: &mut [u8], at: usize) -> usize
     requires { at + length (number n) ≤ length out.old }
     ensures { Wrote out.old at (number n) out.new result }
 {
-    if n < 10 {
-        return put_byte(48 + n as u8, out, at);
-    }
-    let next = put_number(n / 10, out, at);
-    put_byte(48 + (n % 10) as u8, out, next)
+    let end = at + number_length(n);
+    itoa::write_digits(n as u64, out, end);
+    end
 }
 
 // A blank and a number.
@@ -45,19 +40,13 @@ pub fn put_after(n: usize, out: &mut [u8], at: usize) -> usize
     requires { at + suc (length (number n)) ≤ length out.old }
     ensures { Wrote out.old at (after n) out.new result }
 {
-    let next = put_byte(32, out, at);
+    let next = put_byte(b' ', out, at);
     put_number(n, out, next)
 }
 
-// How many digits a number has.
+// How many digits a number has: 0 has one, as 1 has.
 pub fn number_length(n: usize) -> usize
     ensures { result ≡ length (number n) }
 {
-    let mut rest = n;
-    let mut count: usize = 1;
-    while rest >= 10 {
-        rest /= 10;
-        count += 1;
-    }
-    count
+    n.max(1).ilog10() as usize + 1
 }

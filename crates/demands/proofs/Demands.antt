@@ -27,6 +27,7 @@ use Rattle.meaning.proofs.Marks.{Heads}
 use Rattle.meaning.proofs.Deciding.{consistent_less}
 use Rattle.meaning.proofs.Explanations.{fine_exactly, inconsistent_more, explanation_tested, repair_tested, inconsistent_grown}
 use Rattle.book.specs.Walk.{book_of, IsBook}
+use Rattle.book.proofs.Walk.{well_formed}
 use Rattle.marks.proofs.Walks.{heads}
 use Rattle.rounds.specs.Records.{Record, explains, repairs, allows, allowed}
 use Rattle.rounds.specs.Rounds.{seed, found, Monotone}
@@ -204,14 +205,17 @@ broken_core b f = record { explanations = λ x. (only x, λ e. subst (Explanatio
 
 -- ---- every accepted book
 module _ (s : List ℕ) (is : IsBook s) where
+  own : Heads (book_of s).variables (book_of s).clauses
+  own = heads (book_of s) (well_formed s is)
+
   pub demand_2 : Demand2 (book_of s)
-  demand_2 = let b = book_of s in record { right = listed_right b (heads s is); order = listed_order b (heads s is); reached = listed_reached b (heads s is) }
+  demand_2 = let b = book_of s in record { right = listed_right b own; order = listed_order b own; reached = listed_reached b own }
 
   pub demand_3 : Demand3 (book_of s)
-  demand_3 = let b = book_of s in record { more = listed_more b (heads s is); stops = listed_stops b (heads s is); complete = listed_when b (heads s is) }
+  demand_3 = let b = book_of s in record { more = listed_more b own; stops = listed_stops b own; complete = listed_when b own }
 
   pub round_rule : RoundRule (book_of s)
-  round_rule = listed_rule (book_of s) (heads s is)
+  round_rule = listed_rule (book_of s) own
 
   pub growth : (t : List ℕ) → IsBook t → Gains (book_of s) (book_of t) → Grown (book_of s) (book_of t)
-  growth t it G = grown (book_of s) (book_of t) (heads s is) (heads t it) G
+  growth t it G = grown (book_of s) (book_of t) own (heads (book_of t) (well_formed t it)) G

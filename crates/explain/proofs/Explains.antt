@@ -1,7 +1,7 @@
 -- What explaining answers and leaves, by what the bytes and the choice are.
 --   explains_no, explains_tight, explains_goes      the refusals in their order, and none
---   told_no, told_none, told_some      a refusal, a consistent choice, an explanation
---   explained_one, explain_one      the answer determines `Explained`; the contract of `explain` determines its answer and the space
+--   told_no, told_found       a refusal, and what is found
+--   explain_one               the contract of `explain` determines its answer and the space
 --   says_consistent           the answer is consistent exactly if some assignment satisfies all clauses in force
 --   says_smallest             an explanation that is told is the smallest number among the inconsistent choices within the choice
 --   says_least                ... no smaller choice within the choice is inconsistent, by what assignments satisfy
@@ -15,8 +15,12 @@ use mathlib.Core.Bool.{Bool, true, false, cond}
 use native.Mathlib.Omega.{arith}
 use lib.Pow.{pow_pos}
 use borrow.Author.Tests.{lt-ltb, le-ltb}
-use Rattle.answer.specs.Answer.{Answer, answered, refused, and_then, first}
-use Rattle.answer.specs.Space.{over, laid}
+use Rattle.answer.specs.Answer.{Answer, answered, refused, first}
+use Rattle.answer.specs.Refusals.{refusal_is}
+use Rattle.answer.specs.declared.Refusal.{Refusal}
+use Rattle.answer.specs.Space.{over}
+use Rattle.answer.proofs.Refusals.{answer_one}
+use Rattle.std.specs.Prelude.{Option, None, Some, Result, Ok, Err}
 use Rattle.answer.proofs.Answers.{then_by, then_not, then_is, unless_none, unless_some, unless_is}
 use Rattle.answer.proofs.Spaces.{laid_refused, laid_answered}
 use Rattle.answer.proofs.Tests.{holds_or, clash}
@@ -34,14 +38,11 @@ use Rattle.book.specs.Bytes.{most_groups}
 use Rattle.book.specs.Reading.{reading}
 use Rattle.book.specs.Walk.{taken, book_of, IsBook}
 use Rattle.meaning.proofs.Marks.{Heads}
+use Rattle.book.proofs.Walk.{well_formed}
 use Rattle.marks.proofs.Walks.{heads}
 use Rattle.admit.specs.Admits.{admits, work_words, zeros}
-use Rattle.admit.proofs.Admits.{Granted, admits_read, choice_fits}
+use Rattle.admit.proofs.Admits.{admits_read, choice_fits}
 use Rattle.explain.specs.Explains.{explained, within_is, explained_is, explains, Explaining}
-use Rattle.explain.specs.declared.Within.{Within}
-use Rattle.explain.specs.declared.Within.TheVariants as WithinV
-use Rattle.explain.specs.declared.Explained.{Explained}
-use Rattle.explain.specs.declared.Explained.TheVariants as ExplainedV
 
 -- ---- the refusals
 module _ (s : List ℕ) (x words : ℕ) where
@@ -49,48 +50,36 @@ module _ (s : List ℕ) (x words : ℕ) where
   unfolding explains
   explains_no n at e = then_not _ n at _ e
 
-  module _ (v g m : ℕ) (H : Granted s x v g m) where
+  module _ (b : Book) (has : admits s x ≡ answered b) where
     pub explains_tight : words < work_words → explains s x words ≡ refused 11 0
     unfolding explains first
     explains_tight h =
-        then_by _ (book_of s) _ H.has
-        ∙ unless_some 11 _ 0 (answered (book_of s)) (sym (ap (λ (a : Bool). cond a 11 0) (lt-ltb words work_words h))) (λ e. omega arith)
+        then_by _ b _ has
+        ∙ unless_some 11 _ 0 (answered b) (sym (ap (λ (a : Bool). cond a 11 0) (lt-ltb words work_words h))) (λ e. omega arith)
 
-    pub explains_goes : work_words ≤ words → explains s x words ≡ answered (book_of s)
+    pub explains_goes : work_words ≤ words → explains s x words ≡ answered b
     unfolding explains first
-    explains_goes h = then_by _ (book_of s) _ H.has ∙ unless_none _ 0 (answered (book_of s)) (ap (λ (a : Bool). cond a 11 0) (le-ltb words work_words h))
+    explains_goes h = then_by _ b _ has ∙ unless_none _ 0 (answered b) (ap (λ (a : Bool). cond a 11 0) (le-ltb words work_words h))
 
 -- ---- what is told and left
-pub told_no : (a : Answer Book) (x n at : ℕ) (work : List ℕ) → a ≡ refused n at → Explaining a x (ExplainedV.Refused n at) work work
-unfolding explained_is
-told_no a x n at work e = (sym (then_not a n at _ e), sym (laid_refused _ work n at (then_not a n at _ e)))
+pub told_no : (a : Answer Book) (x : ℕ) (r : Refusal) (work : List ℕ) → a ≡ refusal_is r → Explaining a x (Err r) work work
+told_no a x r work e = (sym (then_not a _ _ _ e), sym (laid_refused _ work _ _ (then_not a _ _ _ e)))
 
-module _ (a : Answer Book) (x : ℕ) (b : Book) (work work' : List ℕ) (e : a ≡ answered b) (r : Within) (is : within_is r ≡ explained b x) (w : work' ≡ over zeros work) where
-  space : work' ≡ laid (and_then a (λ b. answered zeros)) work
-  space = w ∙ sym (laid_answered _ work zeros (then_by a b _ e))
-
-  pub told_none : r ≡ WithinV.Consistent → Explaining a x ExplainedV.Consistent work work'
-  unfolding explained_is within_is
-  told_none q = (sym (then_by a b _ e ∙ ap answered (sym is ∙ ap within_is q)), space)
-
-  pub told_some : (y : ℕ) → r ≡ WithinV.Smallest y → Explaining a x (ExplainedV.Explanation y) work work'
-  unfolding explained_is within_is
-  told_some y q = (sym (then_by a b _ e ∙ ap answered (sym is ∙ ap within_is q)), space)
+pub told_found : (a : Answer Book) (x : ℕ) (b : Book) (work work' : List ℕ) → a ≡ answered b → (r : Option ℕ) → within_is r ≡ explained b x → work' ≡ over zeros work
+    → Explaining a x (Ok r) work work'
+told_found a x b work work' e r is w = (sym (then_by a b _ e ∙ ap answered (sym is)), w ∙ sym (laid_answered _ work zeros (then_by a b _ e)))
 
 -- ---- the contract determines everything
-pub explained_one : (a b : Explained) → explained_is a ≡ explained_is b → a ≡ b
-unfolding explained_is
-explained_one ExplainedV.Consistent ExplainedV.Consistent e = refl
-explained_one ExplainedV.Consistent (ExplainedV.Explanation m) e = let z : ◌≡◌ {A = ℕ} 0 1 = cc in absurd (omega arith)
-explained_one ExplainedV.Consistent (ExplainedV.Refused m p) e = let z : ◌≡◌ {A = ℕ} 0 1 = cc in absurd (omega arith)
-explained_one (ExplainedV.Explanation n) ExplainedV.Consistent e = let z : ◌≡◌ {A = ℕ} 0 1 = cc in absurd (omega arith)
-explained_one (ExplainedV.Explanation n) (ExplainedV.Explanation m) e = cc
-explained_one (ExplainedV.Explanation n) (ExplainedV.Refused m p) e = let z : ◌≡◌ {A = ℕ} 0 1 = cc in absurd (omega arith)
-explained_one (ExplainedV.Refused n q) ExplainedV.Consistent e = let z : ◌≡◌ {A = ℕ} 0 1 = cc in absurd (omega arith)
-explained_one (ExplainedV.Refused n q) (ExplainedV.Explanation m) e = let z : ◌≡◌ {A = ℕ} 0 1 = cc in absurd (omega arith)
-explained_one (ExplainedV.Refused n q) (ExplainedV.Refused m p) e = cc
+within_one : (a b : Option ℕ) → within_is a ≡ within_is b → a ≡ b
+within_one None None e = refl
+within_one None (Some m) e = let z : ◌≡◌ {A = ℕ} 0 1 = cc in absurd (omega arith)
+within_one (Some n) None e = let z : ◌≡◌ {A = ℕ} 0 1 = cc in absurd (omega arith)
+within_one (Some n) (Some m) e = cc
 
-pub explain_one : (a : Answer Book) (x : ℕ) (r r' : Explained) (work w w' : List ℕ) → Explaining a x r work w → Explaining a x r' work w' → (r ≡ r') × (w ≡ w')
+explained_one : (a b : Result (Option ℕ) Refusal) → explained_is a ≡ explained_is b → a ≡ b
+explained_one = answer_one within_is within_one
+
+pub explain_one : (a : Answer Book) (x : ℕ) (r r' : Result (Option ℕ) Refusal) (work w w' : List ℕ) → Explaining a x r work w → Explaining a x r' work w' → (r ≡ r') × (w ≡ w')
 explain_one a x r r' work w w' p q = (explained_one r r' (p.0 ∙ sym q.0), p.1 ∙ sym q.1)
 
 -- ---- what the answers mean
@@ -108,31 +97,29 @@ explains_book s x words b bytes e =
     (record { bytes = bytes; read = r ∙ ap answered (sym (ap taken r)) }, ap taken r, t.1 ∙ u.1)
 
 module _ (s : List ℕ) (x words : ℕ) (b : Book) (bytes : Bytes s) (e : explains s x words ≡ answered b)
-    (r : Explained) (work work' : List ℕ) (A : Explaining (explains s x words) x r work work') where
+    (r : Result (Option ℕ) Refusal) (work work' : List ℕ) (A : Explaining (explains s x words) x r work work') where
   told_is : explained_is r ≡ answered (explained b x)
   told_is = A.0 ∙ then_by _ b _ e
 
   own_heads : Heads b.variables b.clauses
   own_heads =
       let k = explains_book s x words b bytes e in
-      subst (λ (z : Book). Heads z.variables z.clauses) k.1 (heads s k.0)
+      subst (λ (z : Book). Heads z.variables z.clauses) k.1 (heads (book_of s) (well_formed s k.0))
 
-  pub says_consistent : (r ≡ ExplainedV.Consistent) ↔ Consistent b.clauses x
-  unfolding explained_is
+  pub says_consistent : (r ≡ Ok None) ↔ Consistent b.clauses x
   says_consistent = (there, back)
     where
       none_told : (t : Bool) → answered [] ≡ answered (cond t (smallest (inconsistent b) x ∷ []) []) → t ≡ false
       none_told true q = let z : ◌≡◌ {A = ℕ} 0 1 = cc in absurd (omega arith)
       none_told false q = refl
 
-      there : r ≡ ExplainedV.Consistent → Consistent b.clauses x
+      there : r ≡ Ok None → Consistent b.clauses x
       there q = (fine_exactly b own_heads x).1 (none_told (inconsistent b x) (sym (ap explained_is q) ∙ told_is ∙ ap answered (by_test b x (inconsistent b x) refl)))
 
-      back : Consistent b.clauses x → r ≡ ExplainedV.Consistent
-      back C = explained_one r ExplainedV.Consistent (told_is ∙ ap answered (by_test b x false ((fine_exactly b own_heads x).0 C)))
+      back : Consistent b.clauses x → r ≡ Ok None
+      back C = explained_one r (Ok None) (told_is ∙ ap answered (by_test b x false ((fine_exactly b own_heads x).0 C)))
 
-  pub says_smallest : (y : ℕ) → r ≡ ExplainedV.Explanation y → Smallest (inconsistent b) x y
-  unfolding explained_is
+  pub says_smallest : (y : ℕ) → r ≡ Ok (Some y) → Smallest (inconsistent b) x y
   says_smallest y q =
       let k = some_told (inconsistent b x) (sym (ap explained_is q) ∙ told_is ∙ ap answered (by_test b x (inconsistent b x) refl)) in
       subst (Smallest (inconsistent b) x) k.1 (smallest_found (inconsistent b) x k.0)
@@ -141,14 +128,14 @@ module _ (s : List ℕ) (x words : ℕ) (b : Book) (bytes : Bytes s) (e : explai
       some_told true q = (refl, cc)
       some_told false q = let z : ◌≡◌ {A = ℕ} 0 1 = cc in absurd (omega arith)
 
-  pub says_least : (y : ℕ) → r ≡ ExplainedV.Explanation y → (z : ℕ) → Inside z x → (Consistent b.clauses z → ⊥) → y ≤ z
+  pub says_least : (y : ℕ) → r ≡ Ok (Some y) → (z : ℕ) → Inside z x → (Consistent b.clauses z → ⊥) → y ≤ z
   says_least y q z i f = (says_smallest y q).lower z i (go (holds_or (inconsistent b z)))
     where
       go : (inconsistent b z ≡ true) ⊎ (inconsistent b z ≡ false) → inconsistent b z ≡ true
       go (inl t) = t
       go (inr e) = absurd (f ((fine_exactly b own_heads z).1 e))
 
-  pub says_explanation : (y : ℕ) → x < 2 ^ most_groups → r ≡ ExplainedV.Explanation y → ExplanationOf b y × Inside y x
+  pub says_explanation : (y : ℕ) → x < 2 ^ most_groups → r ≡ Ok (Some y) → ExplanationOf b y × Inside y x
   says_explanation y h q = (
     record {
       within = omega (arith, inside_le y x S.inside, choice_fits s x b h (explains_book s x words b bytes e).2);

@@ -5,7 +5,6 @@
 --   none_apart                nothing kept is apart from every choice
 --   apart_by                  what is kept and what is left are apart
 --   Inserting                 the invariant of `smallest_within`
---   within_is_none, within_is_some      the two answers
 --   within_none               at the start: no group breaks
 --   inserting_start, Next, inserting_next, inserting_end      ... and else: the start, a pass and the end
 --   next_apart, next_kept, next_again, next_falls      the pass, by the weight of its group
@@ -33,15 +32,16 @@ use Rattle.rounds.specs.Insertion.{Stage, Breaks}
 use Rattle.rounds.proofs.Digits.{lt_or_ge, digit_low, mod_low, low_again}
 use Rattle.rounds.proofs.Insertion.{smallest_is, stage_start, stage_done, stage_next, stage_fits, breaks_le, breaks_group}
 use Rattle.book.specs.Bytes.{most_groups}
-use Rattle.book.specs.Walk.{book_of, IsBook}
-use Rattle.book.proofs.Walk.{well_formed}
+use Rattle.book.specs.Clauses.{meant}
+use Rattle.book.specs.declared.accepted.Book.{Book as Found}
+use Rattle.book.proofs.Walk.{found}
 use Rattle.marks.proofs.Walks.{heads}
 use Rattle.levels.specs.Levels.{GoalLevel}
-use Rattle.table.specs.Table.{Sized, Prepared, Kept}
+use Rattle.table.specs.Table.{Prepared, Kept}
+use Rattle.table.proofs.Stores.{sized}
 use Rattle.queue.specs.Turns.{Carrying}
 use Rattle.queue.proofs.Turns.{prepared_kept}
-use Rattle.explain.specs.Explains.{reach_from, transition, explained, within_is}
-use Rattle.explain.specs.declared.Within.TheVariants as WithinV
+use Rattle.explain.specs.Explains.{reach_from, transition, explained}
 
 -- ---- the transition group
 and_false : (a : Bool) → (a && false) ≡ false
@@ -133,48 +133,40 @@ explained_some : (b : Book) (x y : ℕ) → inconsistent b x ≡ true → y ≡ 
 unfolding explained
 explained_some b x y e q = ap (λ (z : ℕ). z ∷ []) q ∙ sym (ap (λ (t : Bool). cond t (smallest (inconsistent b) x ∷ []) []) e)
 
-pub within_is_none : {l : List ℕ} → [] ≡ l → within_is WithinV.Consistent ≡ l
-unfolding within_is
-within_is_none e = e
-
-pub within_is_some : (y : ℕ) {l : List ℕ} → y ∷ [] ≡ l → within_is (WithinV.Smallest y) ≡ l
-unfolding within_is
-within_is_some y e = e
-
 pub none_apart : (x : ℕ) → Apart 0 x
 none_apart x g = omega (arith, digit_none g, digit_lt x g)
 
-module _ (s : List ℕ) (is : IsBook s) (n x : ℕ) (own : n ≡ (book_of s).groups) (fit : x < 2 ^ n) where
-  mono : Monotone n (inconsistent (book_of s))
-  mono y z l t e = inconsistent_more (book_of s) (heads s is) y z t e
+module _ (b : Found) (x : ℕ) (fit : x < 2 ^ b.groups) where
+  mono : Monotone b.groups (inconsistent (meant b))
+  mono y z l t e = inconsistent_more (meant b) (heads (meant b) (found b)) y z t e
 
-  most_groups_lem : n ≤ most_groups
-  most_groups_lem = omega (arith, own, (well_formed s is).groups)
+  most_groups_lem : b.groups ≤ most_groups
+  most_groups_lem = omega (arith, b.groups_are, (found b).groups)
 
   -- the whole choice, as the first pass meets it
-  first_pass : (level : ℕ) → GoalLevel (book_of s) 0 x level → inconsistent (book_of s) x ≡ leb level n
-  first_pass level G = ap (inconsistent (book_of s)) (sym (zero-add (x % 2 ^ n) ∙ mod-eq_of_lt fit)) ∙ G.breaks n most_groups_lem
+  first_pass : (level : ℕ) → GoalLevel (meant b) 0 x level → inconsistent (meant b) x ≡ leb level b.groups
+  first_pass level G = ap (inconsistent (meant b)) (sym (zero-add (x % 2 ^ b.groups) ∙ mod-eq_of_lt fit)) ∙ G.breaks b.groups most_groups_lem
 
-  pub within_none : (level : ℕ) → GoalLevel (book_of s) 0 x level → n < level → [] ≡ explained (book_of s) x
-  within_none level G l = explained_none (book_of s) x (first_pass level G ∙ lt-leb level n l)
+  pub within_none : (level : ℕ) → GoalLevel (meant b) 0 x level → b.groups < level → [] ≡ explained (meant b) x
+  within_none level G l = explained_none (meant b) x (first_pass level G ∙ lt-leb level b.groups l)
 
-  pub inserting_start : (level : ℕ) → GoalLevel (book_of s) 0 x level → level ≤ n → Inserting (book_of s) x 0 x level
+  pub inserting_start : (level : ℕ) → GoalLevel (meant b) 0 x level → level ≤ b.groups → Inserting (meant b) x 0 x level
   inserting_start level G l =
       record {
-        low = n;
+        low = b.groups;
         few = most_groups_lem;
-        stage = stage_start n (inconsistent (book_of s)) x fit (first_pass level G ∙ le-leb level n l);
+        stage = stage_start b.groups (inconsistent (meant b)) x fit (first_pass level G ∙ le-leb level b.groups l);
         left = sym (mod-eq_of_lt fit);
-        breaks = breaks_by (book_of s) x 0 n x level most_groups_lem (sym (mod-eq_of_lt fit)) G;
+        breaks = breaks_by (meant b) x 0 b.groups x level most_groups_lem (sym (mod-eq_of_lt fit)) G;
       }
 
-  module _ (kept pool level : ℕ) (I : Inserting (book_of s) x kept pool level) where
-    pub inserting_end : level ≡ 0 → kept ∷ [] ≡ explained (book_of s) x
+  module _ (kept pool level : ℕ) (I : Inserting (meant b) x kept pool level) where
+    pub inserting_end : level ≡ 0 → kept ∷ [] ≡ explained (meant b) x
     inserting_end e =
-        let S = stage_done (inconsistent (book_of s)) x kept I.low level I.breaks I.stage e in
-        explained_some (book_of s) x kept (mono kept x fit S.inside S.broken) (smallest_is (inconsistent (book_of s)) x kept S)
+        let S = stage_done (inconsistent (meant b)) x kept I.low level I.breaks I.stage e in
+        explained_some (meant b) x kept (mono kept x fit S.inside S.broken) (smallest_is (inconsistent (meant b)) x kept S)
 
-    pub inserting_next : level ≢ 0 → Next (book_of s) x kept pool level
+    pub inserting_next : level ≢ 0 → Next (meant b) x kept pool level
     inserting_next o =
         record {
           some = some;
@@ -182,25 +174,25 @@ module _ (s : List ℕ) (is : IsBook s) (n x : ℕ) (own : n ≡ (book_of s).gro
           own = transition_own pool level arrives some (omega (arith, most, I.few));
           arrives = arrives;
           before = apart_by I.stage.high kept I.low x pool I.stage.whole I.left;
-          fits = stage_fits n (inconsistent (book_of s)) mono x fit kept I.low I.stage level I.breaks some most;
+          fits = stage_fits b.groups (inconsistent (meant b)) mono x fit kept I.low I.stage level I.breaks some most;
           apart = apart_by later.high (kept + 2 ^ (level - 1)) (level - 1) x (pool % 2 ^ (level - 1)) later.whole rest;
           again = again;
-          falls = λ r G. let l : r ≤ level - 1 = breaks_le (inconsistent (book_of s)) x (kept + 2 ^ (level - 1)) (level - 1) r (again r G).breaks later in omega arith;
+          falls = λ r G. let l : r ≤ level - 1 = breaks_le (inconsistent (meant b)) x (kept + 2 ^ (level - 1)) (level - 1) r (again r G).breaks later in omega arith;
         }
       where
         some : 1 ≤ level
         some = omega arith
 
         most : level ≤ I.low
-        most = breaks_le (inconsistent (book_of s)) x kept I.low level I.breaks I.stage
+        most = breaks_le (inconsistent (meant b)) x kept I.low level I.breaks I.stage
 
         arrives : digit pool (level - 1) ≡ 1
         arrives =
             ap (λ (y : ℕ). digit y (level - 1)) I.left ∙ mod_low x I.low (level - 1) (omega (arith, some, most))
-            ∙ breaks_group (inconsistent (book_of s)) x kept I.low level I.breaks some most
+            ∙ breaks_group (inconsistent (meant b)) x kept I.low level I.breaks some most
 
-        later : Stage (inconsistent (book_of s)) x (kept + 2 ^ (level - 1)) (level - 1)
-        later = stage_next n (inconsistent (book_of s)) mono x fit kept I.low I.stage level I.breaks some most
+        later : Stage (inconsistent (meant b)) x (kept + 2 ^ (level - 1)) (level - 1)
+        later = stage_next b.groups (inconsistent (meant b)) mono x fit kept I.low I.stage level I.breaks some most
 
         rest : pool % 2 ^ (level - 1) ≡ x % 2 ^ (level - 1)
         rest = ap (λ (y : ℕ). y % 2 ^ (level - 1)) I.left ∙ low_again x (level - 1) I.low (omega (arith, most))
@@ -208,14 +200,14 @@ module _ (s : List ℕ) (is : IsBook s) (n x : ℕ) (own : n ≡ (book_of s).gro
         few_left : level - 1 ≤ most_groups
         few_left = omega (arith, most, I.few)
 
-        again : (r : ℕ) → GoalLevel (book_of s) (kept + 2 ^ (level - 1)) (pool % 2 ^ (level - 1)) r → Inserting (book_of s) x (kept + 2 ^ (level - 1)) (pool % 2 ^ (level - 1)) r
+        again : (r : ℕ) → GoalLevel (meant b) (kept + 2 ^ (level - 1)) (pool % 2 ^ (level - 1)) r → Inserting (meant b) x (kept + 2 ^ (level - 1)) (pool % 2 ^ (level - 1)) r
         again r G =
             record {
               low = level - 1;
               few = few_left;
               stage = later;
               left = rest;
-              breaks = breaks_by (book_of s) x (kept + 2 ^ (level - 1)) (level - 1) (pool % 2 ^ (level - 1)) r few_left rest G;
+              breaks = breaks_by (meant b) x (kept + 2 ^ (level - 1)) (level - 1) (pool % 2 ^ (level - 1)) r few_left rest G;
             }
 
 -- the same by the weight that code computes
@@ -234,8 +226,8 @@ module _ (b : Book) (x kept pool level : ℕ) (N : Next b x kept pool level) (w 
 pub kept_after : (s : List ℕ) (kept pool kept' pool' : ℕ) (w u w' : List ℕ) → Kept s kept pool w u → Kept s kept' pool' u w' → Kept s kept' pool' w w'
 kept_after s kept pool kept' pool' w u w' K L = record { ready = L.ready; rest = L.rest ∙ K.rest; long = L.long ∙ K.long }
 
--- carried on by the group g that was found, which is the level
-pub next_kept : (s : List ℕ) (v m x kept pool level : ℕ) → Next (book_of s) x kept pool level → (w : ℕ) → w ≡ 2 ^ (level - 1) → (g : ℕ) (u u' : List ℕ) → Sized s v m → g ≡ level
-    → Carrying g v m u u' → Prepared s kept pool u → Kept s (kept + w) (pool % w) u u'
-next_kept s v m x kept pool level N w is g u u' Z e C P =
-    prepared_kept s v m Z kept pool u u' P level w N.before N.some N.most N.arrives is (subst (λ (k : ℕ). Carrying k v m u u') e C)
+-- carried on by the group g that was found, which is the level, and by the layout of the book
+pub next_kept : (b : Found) (v m x kept pool level : ℕ) → (v ≡ b.variables) × (m ≡ b.clauses) → Next (meant b) x kept pool level → (w : ℕ) → w ≡ 2 ^ (level - 1) → (g : ℕ) (u u' : List ℕ) → g ≡ level
+    → Carrying g v m u u' → Prepared b.bytes.now kept pool u → Kept b.bytes.now (kept + w) (pool % w) u u'
+next_kept b v m x kept pool level same N w is g u u' e C P =
+    prepared_kept b.bytes.now b.variables b.clauses (sized b) kept pool u u' P level w N.before N.some N.most N.arrives is (rw (sym same.0, sym same.1, sym e) C)

@@ -5,30 +5,19 @@
 ghost use Rattle.std.specs.Prelude.{◌≡◌, ◌-◌, ◌≤◌, ◌<◌, ◌^◌, length, drop};
 ghost use Rattle.answer.specs.Space.{over};
 ghost use Rattle.book.specs.Bytes.{most_groups};
-ghost use Rattle.book.specs.Walk.{book_of};
-ghost use Rattle.table.specs.Table.{Sized};
+ghost use Rattle.book.specs.Clauses.{meant};
 ghost use Rattle.admit.specs.Admits.{work_words, zeros};
 ghost use Rattle.explain.specs.Explains.{transition as transition', explained, within_is, explains, Explaining};
 
-use admit::{Admitted, WORK_WORDS};
-use book::MOST_GROUPS;
-
-// What is found within a choice.
-#[derive(Drop)]
-pub enum Within {
-    Consistent,
-    Smallest { groups: u32 },
-}
-
-#[derive(Drop)]
-pub enum Explained {
-    Consistent,
-    Explanation { groups: u32 },
-    Refused { number: u8, place: usize },
-}
+use admit::WORK_WORDS;
+use answer::{Cause, Refusal};
+use book::{Book, MOST_GROUPS};
+use levels::Arrivals;
+use lists::Layout;
+use queue::Until;
 
 // The lowest group of the pool whose number is at least the level; 0 if there is none. A goal is broken from that level on, so it is the first group whose arrival
-// breaks consistency.
+// breaks consistency. Document 01 fixes the form of this loop: the group comes out of it by `break`.
 fn transition(pool: u32, level: u16) -> u16
     ensures { result ≡ transition' pool level }
 {
@@ -56,76 +45,52 @@ fn weight(group: u16) -> u32
     choice::bit((group - 1) as u32)
 }
 
-// The smallest explanation within a choice. What the first words of the working space hold does not matter to it, before and after; the variables that they
-// leave aside stay so.
-pub fn smallest_within(
-    book: &[u8],
-    variables: u16,
-    groups: u16,
-    clauses: u16,
-    choice: u32,
-    work: &mut [u16],
-) -> Within
-    requires { Sized book.now variables clauses × (groups ≡ (book_of book.now).groups) × (choice < 2 ^ groups) × (work_words ≤ length work.old) }
-    ensures { (within_is result ≡ explained (book_of book.now) choice) × (drop work_words work.new ≡ drop work_words work.old) }
+// The smallest explanation within a choice, if it is not consistent. What the first words of the working space hold does not matter to it, before and after; the
+// variables that they leave aside stay so.
+pub fn smallest_within(book: &Book, choice: u32, work: &mut [u16]) -> Option<u32>
+    requires { (choice < 2 ^ book.now.groups) × (work_words ≤ length work.old) }
+    ensures { (within_is result ≡ explained (meant book.now) choice) × (drop work_words work.new ≡ drop work_words work.old) }
 {
-    table::lay(book, 0, choice, variables, clauses, work);
-    let mut level = queue::goal_level(book, 0, choice, false, variables, clauses, work);
-    if groups < level {
-        return Within::Consistent;
+    let mut now = Arrivals {
+        kept: 0,
+        pool: choice,
+    };
+    table::lay(book, now, work);
+    let mut level = queue::goal_level(book, now, Until::Goal, work);
+    if book.groups < level {
+        return None;
     }
-    let mut kept: u32 = 0;
-    let mut pool = choice;
     while level != 0 {
-        let group = transition(pool, level);
+        let group = transition(now.pool, level);
         let w = weight(group);
-        kept += w;
-        pool = pool % w;
-        queue::keep(group, variables, clauses, work);
-        level = queue::goal_level(book, kept, pool, true, variables, clauses, work);
+        now = Arrivals {
+            kept: now.kept + w,
+            pool: now.pool % w,
+        };
+        queue::keep(Layout::of(book), group, work);
+        level = queue::goal_level(book, now, Until::End, work);
     }
-    Within::Smallest { groups: kept }
+    Some(now.kept)
 }
 
 // The same for one choice alone: no variable is left aside, and the working space is cleared afterwards.
-fn answer(
-    book: &[u8],
-    variables: u16,
-    groups: u16,
-    clauses: u16,
-    choice: u32,
-    work: &mut [u16],
-) -> Within
-    requires { Sized book.now variables clauses × (groups ≡ (book_of book.now).groups) × (choice < 2 ^ groups) × (work_words ≤ length work.old) }
-    ensures { (within_is result ≡ explained (book_of book.now) choice) × (work.new ≡ over zeros work.old) }
+fn answer(book: &Book, choice: u32, work: &mut [u16]) -> Option<u32>
+    requires { (choice < 2 ^ book.now.groups) × (work_words ≤ length work.old) }
+    ensures { (within_is result ≡ explained (meant book.now) choice) × (work.new ≡ over zeros work.old) }
 {
-    lists::leave_none_aside(variables, clauses, work);
-    let found = smallest_within(book, variables, groups, clauses, choice, work);
+    Layout::of(book).leave_none_aside(work);
+    let found = smallest_within(book, choice, work);
     admit::clear(work, WORK_WORDS);
     found
 }
 
-// Explains a choice.
-pub fn explain(book: &[u8], choice: u32, work: &mut [u16]) -> Explained
-    ensures { Explaining (explains book.now choice (length work.old)) choice result work.old work.new }
+// Explains a choice: the smallest explanation within it, if it is not consistent; or the refusal.
+pub fn explain(bytes: &[u8], choice: u32, work: &mut [u16]) -> Result<Option<u32>, Refusal>
+    ensures { Explaining (explains bytes.now choice (length work.old)) choice result work.old work.new }
 {
-    match admit::admit(book, choice) {
-        Admitted::Refused { number, place } => Explained::Refused { number, place },
-        Admitted::Book {
-            variables,
-            groups,
-            clauses,
-        } => {
-            if work.len() < WORK_WORDS {
-                return Explained::Refused {
-                    number: 11,
-                    place: 0,
-                };
-            }
-            match answer(book, variables, groups, clauses, choice, work) {
-                Within::Consistent => Explained::Consistent,
-                Within::Smallest { groups } => Explained::Explanation { groups },
-            }
-        }
+    let book = admit::admit(bytes, choice)?;
+    if work.len() < WORK_WORDS {
+        return Err(Cause::SpaceTooSmall.at(0));
     }
+    Ok(answer(&book, choice, work))
 }

@@ -2,7 +2,8 @@
 --   bytes_at, byte_at            bytes as a slice has them, both ways
 --   bytes_drop, bytes_take       of a part
 --   words_none, spelt            what some bytes spell, by their length
---   within_low, within_high, within_next, within_none, rising_not, rising_next, rising_none      one turn of a test of a part's numbers
+--   within_all                   `within` tests each number
+--   rising_not, rising_next, rising_none      one turn of a test whether numbers rise
 --   within_cons, cons_within, rising_cons, cons_rising      a test of a number and of those after it, both ways
 --   within_one, one_within       of one number alone
 --   within_more                  within wider limits
@@ -20,7 +21,8 @@ use native.Mathlib.Omega.{arith}
 use lib.ListN.{length, get_or, take, drop}
 use lib.Seq.{drop-cons}
 use lib.Dec.{leb, ltb}
-use borrow.Author.Tests.{lt-ltb, le-ltb, le-leb, lt-leb, leb-true, ltb-true}
+use borrow.Author.Tests.{lt-ltb, le-ltb, le-leb, leb-true, ltb-true}
+use Rattle.std.specs.List.{list_all}
 use Rattle.answer.proofs.Tests.{and_left, and_right}
 use Rattle.field.specs.Words.{Bytes, word, word_at, words, word_bytes, within, rising}
 use Rattle.field.proofs.Parts.{part_end}
@@ -56,38 +58,29 @@ words_more [] h = absurd (omega arith)
 words_more (a ∷ []) h = absurd (omega arith)
 words_more (a ∷ (b ∷ s)) h = refl
 
+pub within_all : (low high : ℕ) (ws : List ℕ) → within low high ws ≡ list_all (λ w. leb low w && leb w high) ws
+unfolding within
+within_all low high [] = refl
+within_all low high (w ∷ ws) = ap (λ b. leb low w && leb w high && b) (within_all low high ws)
+
 -- w is the first number of t
 module _ (t : List ℕ) (w : ℕ) (long : 2 ≤ length t) (is : w ≡ word_at t 0) where
   pub spelt : words t ≡ w ∷ words (take (length t - 2) (drop 2 t))
   spelt = simp (words_more t long, part_end, is)
 
-  pub within_low : (low high : ℕ) → w < low → within low high (words t) ≡ false
-  unfolding within
-  within_low low high h = simp (spelt, lt-leb low w h)
-
-  pub within_high : (low high : ℕ) → low ≤ w → high < w → within low high (words t) ≡ false
-  unfolding within
-  within_high low high l h = simp (spelt, le-leb low w l, lt-leb w high h)
-
-  pub within_next : (low high : ℕ) → low ≤ w → w ≤ high → within low high (words t) ≡ within low high (words (take (length t - 2) (drop 2 t)))
-  unfolding within
-  within_next low high l h = simp (spelt, le-leb low w l, le-leb w high h)
-
-  pub rising_not : (b : ℕ) → w ≤ b → rising b (words t) ≡ false
+-- w is the first of some numbers
+module _ (b w : ℕ) (ws left : List ℕ) (is : left ≡ w ∷ ws) where
+  pub rising_not : w ≤ b → rising b left ≡ false
   unfolding rising
-  rising_not b h = simp (spelt, le-ltb b w h)
+  rising_not h = simp (is, le-ltb b w h)
 
-  pub rising_next : (b : ℕ) → b < w → rising b (words t) ≡ rising w (words (take (length t - 2) (drop 2 t)))
+  pub rising_next : b < w → rising b left ≡ rising w ws
   unfolding rising
-  rising_next b h = simp (spelt, lt-ltb b w h)
+  rising_next h = simp (is, lt-ltb b w h)
 
-pub within_none : (low high : ℕ) (t : List ℕ) → length t < 2 → within low high (words t) ≡ true
-unfolding within
-within_none low high t h = simp (words_none t h)
-
-pub rising_none : (b : ℕ) (t : List ℕ) → length t < 2 → rising b (words t) ≡ true
+pub rising_none : (b : ℕ) (left : List ℕ) → left ≡ [] → rising b left ≡ true
 unfolding rising
-rising_none b t h = simp (words_none t h)
+rising_none b left e = simp e
 
 -- a number's bytes spell it
 pub two_bytes : (w : ℕ) → word (w / 256) (w % 256) ≡ w

@@ -1,3 +1,4 @@
 -- Numbers of two bytes, and tagged fields made of them.
 pub mod Words
 pub mod Field
+pub mod Left

@@ -11,16 +11,18 @@ pub fn word_at(s: &[u8], at: usize) -> u16
     requires { at + 1 < length s.now }
     ensures { result ≡ word_at s.now at }
 {
-    (s[at] as u16) * 256 + (s[at + 1] as u16)
+    u16::from_be_bytes([s[at], s[at + 1]])
 }
 
 // Writes a number at `at`, and gives the place after it.
+#[tactic(auto, unfolding(crate::specs::Words::word_bytes))]
 pub fn put_word(w: u16, out: &mut [u8], at: usize) -> usize
     requires { at + 2 ≤ length out.old }
     ensures { Wrote out.old at (word_bytes (w ∷ [])) out.new result }
 {
-    out[at] = (w / 256) as u8;
-    out[at + 1] = (w % 256) as u8;
+    let [high, low] = w.to_be_bytes();
+    out[at] = high;
+    out[at + 1] = low;
     at + 2
 }
 
@@ -33,37 +35,57 @@ pub fn put_front(tag: u8, n: u16, out: &mut [u8], at: usize) -> usize
     put_word(n, out, at + 1)
 }
 
+// The numbers of a part, from the first on. A last odd byte is none.
+#[derive(Clone, Copy)]
+pub struct Numbers<'a> {
+    part: &'a [u8],
+}
+
+impl<'a> Iterator for Numbers<'a> {
+    type Item = u16;
+
+    ghost use Rattle.std.specs.Iterator.{YieldsFirst, item_count};
+    ghost use Rattle.field.specs.Left.{words_left};
+
+    ghost next_gives = { YieldsFirst words_left };
+
+    ghost remaining = { item_count words_left };
+
+    fn next(&mut self) -> Option<u16> {
+        if self.part.len() < 2 {
+            return None;
+        }
+        let w = word_at(self.part, 0);
+        self.part = &self.part[2..];
+        Some(w)
+    }
+}
+
+ghost use Rattle.field.specs.Left.{words_left};
+
+pub fn words_of(part: &[u8]) -> Numbers<'_>
+    ensures { words_left result ≡ words part.now }
+{
+    Numbers { part }
+}
+
 // Whether each number of a part is from `low` to `high`.
 pub fn all_within(part: &[u8], low: u16, high: u16) -> bool
     ensures { result ≡ within low high (words part.now) }
 {
-    let mut t = part;
-    while t.len() >= 2 {
-        let w = word_at(t, 0);
-        if w < low {
-            return false;
-        }
-        if high < w {
-            return false;
-        }
-        t = &t[2..];
-    }
-    true
+    words_of(part).all(|w| low <= w && w <= high)
 }
 
 // Whether the numbers of a part rise strictly, the first from above 0.
 pub fn is_rising(part: &[u8]) -> bool
     ensures { result ≡ rising 0 (words part.now) }
 {
-    let mut t = part;
-    let mut last: u16 = 0;
-    while t.len() >= 2 {
-        let w = word_at(t, 0);
+    let mut last = 0;
+    for w in words_of(part) {
         if w <= last {
             return false;
         }
         last = w;
-        t = &t[2..];
     }
     true
 }

@@ -3,49 +3,52 @@
 
 ghost use Rattle.std.specs.Prelude.{◌≡◌, cond, ◌≤◌, length, leb};
 ghost use Rattle.meaning.specs.Forced.{forced_in};
-ghost use Rattle.book.specs.Walk.{book_of, IsBook};
+ghost use Rattle.book.specs.Clauses.{meant};
 ghost use Rattle.levels.specs.Levels.{marks_at, Settling};
-ghost use Rattle.table.specs.Table.{Sized};
 ghost use Rattle.forcing.specs.Forcing.{Forcing};
+
+use book::Book;
+use levels::Arrivals;
+use lists::Layout;
+use queue::Until;
 
 // A mark where a variable has level 0.
 fn mark_of(level: u16) -> u16
     ensures { result ≡ cond (leb level 0) 1 0 }
 {
-    if level == 0 {
-        return 1;
-    }
-    0
+    (level == 0) as u16
 }
 
 // Levels become marks of the variables of level 0.
 fn mark_all(levels: &mut [u16])
     ensures { levels.new ≡ marks_at 0 levels.old }
 {
-    let mut i = 0;
-    while i < levels.len() {
-        levels[i] = mark_of(levels[i]);
-        i += 1;
+    for level in levels.iter_mut() {
+        *level = mark_of(*level);
     }
 }
 
 // The variables that a choice forces, from levels of which none is too low.
-fn finish(book: &[u8], choice: u32, levels: &mut [u16])
-    requires { IsBook book.now × Settling (book_of book.now) choice 0 levels.old }
-    ensures { levels.new ≡ forced_in (book_of book.now) choice }
+fn finish(book: &Book, choice: u32, levels: &mut [u16])
+    requires { Settling (meant book.now) choice 0 levels.old }
+    ensures { levels.new ≡ forced_in (meant book.now) choice }
 {
     mark_all(levels);
     marks::settle(book, choice, levels);
 }
 
 // The front of the working space, one word a variable, leaves with marks of the variables that a choice forces. All of them are asked for, so none is left aside.
-pub fn force(book: &[u8], choice: u32, variables: u16, clauses: u16, work: &mut [u16])
-    requires { Sized book.now variables clauses × (8192 ≤ length work.old) }
-    ensures { Forcing book.now choice work.old work.new }
+pub fn force(book: &Book, choice: u32, work: &mut [u16])
+    requires { 8192 ≤ length work.old }
+    ensures { Forcing book.now.bytes.now choice work.old work.new }
 {
-    lists::leave_none_aside(variables, clauses, work);
-    table::lay(book, choice, 0, variables, clauses, work);
-    queue::run(book, choice, 0, true, variables, clauses, work);
-    let v = variables as usize;
+    let arrivals = Arrivals {
+        kept: choice,
+        pool: 0,
+    };
+    Layout::of(book).leave_none_aside(work);
+    table::lay(book, arrivals, work);
+    queue::run(book, arrivals, Until::End, work);
+    let v = book.variables as usize;
     finish(book, choice, &mut work[..v]);
 }

@@ -10,10 +10,10 @@ use mathlib.Core.List.{List}
 use native.Mathlib.Omega.{arith}
 use lib.IntN.{ℤ}
 use lib.ListN.{length, take}
+use Rattle.std.specs.Prelude.{Result, Ok}
 use Rattle.answer.specs.Answer.{answered}
 use Rattle.answer.specs.Space.{fitting, over}
-use Rattle.answer.specs.declared.Written.{Written}
-use Rattle.answer.specs.declared.Written.TheVariants.{Count}
+use Rattle.answer.specs.declared.Refusal.{Refusal}
 use Rattle.answer.proofs.Answers.{then_by, then_is}
 use Rattle.answer.proofs.Spaces.{fitting_in, fitting_is, told_count, told_all}
 use Rattle.field.specs.Words.{Bytes}
@@ -41,9 +41,9 @@ reads_book : (b : Book) (room : ℕ) → WellFormed b → length (bytes_of b) �
 unfolding reads
 reads_book b room k short fits = then_by _ b _ (reading_written b k short) ∙ fitting_in room (plain_of b) fits
 
-pub read_write : (s : List ℕ) → Bytes s → (space : List ℤ) (n : ℕ) (plain : List ℤ) → Read s space (Count n) plain
-    → (room : List ℕ) (r : Written) (new : List ℕ) → length s ≤ length room → Write (take n plain) room r new
-    → (r ≡ Count (length s)) × (new ≡ over s room)
+pub read_write : (s : List ℕ) → Bytes s → (space : List ℤ) (n : ℕ) (plain : List ℤ) → Read s space (Ok n) plain
+    → (room : List ℕ) (r : Result ℕ Refusal) (new : List ℕ) → length s ≤ length room → Write (take n plain) room r new
+    → (r ≡ Ok (length s)) × (new ≡ over s room)
 unfolding reads
 read_write s bytes space n plain read room r new fits write =
     let t = told_count (reads s (length space)) space n plain read in
@@ -58,9 +58,9 @@ read_write s bytes space n plain read room r new fits write =
     ∙ ap answered k.bytes in
     told_all (writes (take n plain) (length room)) room s r new w write
 
-pub write_read : (xs : List ℤ) (space : List ℕ) (n : ℕ) (bytes : List ℕ) → Write xs space (Count n) bytes
-    → (room : List ℤ) (r : Written) (new : List ℤ) → length xs ≤ length room → Read (take n bytes) room r new
-    → (r ≡ Count (length xs)) × (new ≡ over xs room)
+pub write_read : (xs : List ℤ) (space : List ℕ) (n : ℕ) (bytes : List ℕ) → Write xs space (Ok n) bytes
+    → (room : List ℤ) (r : Result ℕ Refusal) (new : List ℤ) → length xs ≤ length room → Read (take n bytes) room r new
+    → (r ≡ Ok (length xs)) × (new ≡ over xs room)
 unfolding writes
 write_read xs space n bytes write room r new fits read =
     let t = told_count (writes xs (length space)) space n bytes write in

@@ -1,5 +1,5 @@
 -- Levels confirmed: a goal's level that a goal clause has and below which every clause lets the granted levels stand.
---   Confirming, confirming_end, confirming_found, confirming_next      the invariant of `is_closed`, its ways out and its next turn
+--   closed_all             every clause lets them stand if each does
 --   closed_for             what a walk found, of the choice as it is spelt elsewhere
 --   up_to_inside           a choice up to a number is inside those up to higher ones
 --   confirmed              a level so confirmed is the one from which on the choice is inconsistent
@@ -12,9 +12,10 @@ use mathlib.Core.List.Memᴰ
 use mathlib.Core.List.{List, [], ◌∷◌, Memᴰ}
 use native.Mathlib.Omega.{arith}
 use native.Mathlib.Decide.{ℕ_discrete}
-use lib.ListN.{length, get_or, take, drop}
+use lib.ListN.{get_or, drop}
 use lib.Dec.{leb, leb-zero}
 use borrow.Author.Tests.{le-leb, lt-leb, leb-true, ltb-true, eq-eqb, ne_eqb}
+use Rattle.std.specs.List.{list_all}
 use Rattle.answer.proofs.Tests.{and_left, and_right, and_both, clash}
 use Rattle.meaning.specs.Book.{Clause, Book}
 use Rattle.meaning.specs.Choice.{Apart, Inside}
@@ -25,48 +26,13 @@ use Rattle.meaning.proofs.Forced.{forced_in_least}
 use Rattle.meaning.proofs.Deciding.{broken_whole, lowest_none, consistent_in, broken_more}
 use Rattle.rounds.proofs.Digits.{lt_or_ge, mod_inside, digit_sum}
 use Rattle.book.specs.Bytes.{most_groups}
-use Rattle.book.specs.Walk.{front_of}
-use Rattle.book.specs.declared.Front.TheVariants as FrontV
-use Rattle.book.proofs.Walk.{Walk, Turn, walk_over}
-use Rattle.marks.proofs.Walks.{here}
 use Rattle.levels.specs.Levels.{never, up_to, level_of, greatest, clause_level, marks_at, below, stands, closed_below, BrokenBy, granted, Settling, GoalLevel}
 use Rattle.levels.proofs.Thresholds.{apart_up_to, every_greatest, marked_at, clause_at}
-use Rattle.levels.proofs.Walks.{same}
 
--- ---- clauses one after the other
-closed_none : (x m : ℕ) (f : List ℕ) → closed_below x m f [] ≡ true
+pub closed_all : (x m : ℕ) (f : List ℕ) (cs : List Clause) → closed_below x m f cs ≡ list_all (stands x m f) cs
 unfolding closed_below
-closed_none x m f = refl
-
-closed_first : (x m : ℕ) (f : List ℕ) (c : Clause) (cs : List Clause) → closed_below x m f (c ∷ cs) ≡ (stands x m f c && closed_below x m f cs)
-unfolding closed_below
-closed_first x m f c cs = refl
-
-pub record Confirming (v g x m : ℕ) (all : List Clause) (f r : List ℕ) : Type 0 where
-  pub left : List Clause
-  pub walk : Walk v g r left
-  pub so_far : closed_below x m f left ≡ closed_below x m f all
-
-pub confirming_end : (v g x m : ℕ) (all : List Clause) (f r : List ℕ) → Confirming v g x m all f r → front_of r ≡ FrontV.End → true ≡ closed_below x m f all
-confirming_end v g x m all f r k e = sym (ap (closed_below x m f) (walk_over v g r k.left k.walk e) ∙ closed_none x m f) ∙ k.so_far
-
-module _ (v g x m : ℕ) (all : List Clause) (f r : List ℕ) (from hd body n : ℕ) (k : Confirming v g x m all f r) (t : Turn v g r k.left from hd body n) (b : Bool)
-    (is : b ≡ stands x m f (here v g r k.left from hd body n t)) where
-  split : closed_below x m f all ≡ (b && closed_below x m f t.later)
-  split =
-      sym k.so_far ∙ ap (closed_below x m f) t.is ∙ closed_first x m f t.now t.later
-      ∙ ap (λ (c : Bool). c && closed_below x m f t.later) (sym (is ∙ ap (stands x m f) (same v g r k.left from hd body n t)))
-
-  pub confirming_found : b ≡ false → false ≡ closed_below x m f all
-  confirming_found e = sym (split ∙ ap (λ (c : Bool). c && closed_below x m f t.later) e)
-
-  pub confirming_next : b ≡ true → Confirming v g x m all f (take (length r - n) (drop n r))
-  confirming_next e =
-      record {
-        left = t.later;
-        walk = t.next;
-        so_far = sym (split ∙ ap (λ (c : Bool). c && closed_below x m f t.later) e);
-      }
+closed_all x m f [] = refl
+closed_all x m f (c ∷ cs) = ap (λ b. stands x m f c && b) (closed_all x m f cs)
 
 -- what a walk found, of the choice as it is spelt elsewhere
 pub closed_for : (x y m : ℕ) (f : List ℕ) (cs : List Clause) (b : Bool) → x ≡ y → b ≡ closed_below x m f cs → b ≡ true → closed_below y m f cs ≡ true

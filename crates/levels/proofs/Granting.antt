@@ -1,7 +1,6 @@
 -- Whether a clause lets levels stand below a bound m, with what is left aside taken for granted.
---   granted_below, granted_above      what is granted to a level: itself, and 0 above never
 --   granted_level        the granted level of a variable
---   held_end, held_here, held_next      whether a body reaches the bound: no number is left; w, the first number of the part t, does; it does not
+--   held_any             a body reaches the bound if one of its variables does
 --   stands_out, stands_below, stands_held      whether a clause stands: it is not in force, by its head's level, and else by its body
 --   head_none, head_above      no head, and a head with a level that is not below the bound
 -- Assumes nothing.
@@ -10,22 +9,21 @@ use mathlib.Core.Path.{◌≡◌, refl, sym, ap, ◌∙◌}
 use mathlib.Core.List.{List, [], ◌∷◌}
 use mathlib.Core.Bool.{Bool, true, false, cond, not, ◌||◌}
 use native.Mathlib.Omega.{arith}
-use lib.ListN.{length, get_or, take, drop}
+use lib.ListN.{length, get_or}
 use lib.Dec.{leb, ltb}
 use borrow.Author.Tests.{le-leb, lt-leb, leb-true, leb-false, lt-ltb, le-ltb}
-use Rattle.field.specs.Words.{word_at, words}
+use Rattle.std.specs.List.{list_any}
+use Rattle.field.specs.Words.{within}
+use Rattle.field.proofs.Words.{within_cons}
 use Rattle.meaning.specs.Book.{Clause}
 use Rattle.meaning.specs.Consistent.{in_force}
 use Rattle.levels.specs.Levels.{never, level_of, greatest, below, stands, granted_to, granted}
 use Rattle.levels.proofs.Thresholds.{default_any}
-use Rattle.levels.proofs.Turns.{greatest_end, greatest_next, greatest_from}
+use Rattle.levels.proofs.Turns.{greatest_none, greatest_next, greatest_from}
 
 -- ---- one level
-pub granted_below : (l : ℕ) → l ≤ never → l ≡ granted_to l
+granted_below : (l : ℕ) → l ≤ never → l ≡ granted_to l
 granted_below l h = sym (ap (λ (b : Bool). cond b l 0) (le-leb l never h))
-
-pub granted_above : (l : ℕ) → never < l → 0 ≡ granted_to l
-granted_above l h = sym (ap (λ (b : Bool). cond b l 0) (lt-leb l never h))
 
 granted_at : (f : List ℕ) (i : ℕ) → get_or (granted f) i never ≡ granted_to (get_or f i never)
 unfolding granted
@@ -41,28 +39,24 @@ granted_level f (suc i) h k =
     ap (λ (j : ℕ). granted_to (get_or f j 0)) e ∙ ap granted_to (default_any f i 0 never (omega arith)) ∙ sym (granted_at f i)
 
 -- ---- a body
--- of two levels the one that may reach the bound decides
-other : (m a b : ℕ) → a < m → leb m (max a b) ≡ leb m b
-other m a b h = go (leb m b) refl
+-- of two levels one reaches the bound
+leb_either : (m a b : ℕ) → leb m (max a b) ≡ (leb m a || leb m b)
+leb_either m a b = go (leb m a) (leb m b) refl refl
   where
-    go : (d : Bool) → leb m b ≡ d → leb m (max a b) ≡ d
-    go true e = le-leb m (max a b) (omega (arith, leb-true m b e))
-    go false e = lt-leb m (max a b) (omega (arith, leb-false m b e))
+    go : (p q : Bool) → leb m a ≡ p → leb m b ≡ q → leb m (max a b) ≡ (p || q)
+    go true q e f = le-leb m (max a b) (omega (arith, leb-true m a e))
+    go false true e f = le-leb m (max a b) (omega (arith, leb-true m b f))
+    go false false e f = lt-leb m (max a b) (omega (arith, leb-false m a e, leb-false m b f))
 
-module _ (l : ℕ → ℕ) (m : ℕ) (t : List ℕ) where
-  pub held_end : 1 ≤ m → length t < 2 → false ≡ leb m (greatest l 0 (words t))
-  held_end o h = sym (lt-leb m (greatest l 0 (words t)) (omega (arith, greatest_end l 0 t h)))
-
-  module _ (w : ℕ) (long : 2 ≤ length t) (is : w ≡ word_at t 0) where
-    -- the greater of the first number's level and of the others'
-    first : greatest l 0 (words t) ≡ max (l w) (greatest l 0 (words (take (length t - 2) (drop 2 t))))
-    first = greatest_next t w long is l 0 (l w) (omega arith) ∙ greatest_from l (l w) (words (take (length t - 2) (drop 2 t)))
-
-    pub held_here : m ≤ l w → true ≡ leb m (greatest l 0 (words t))
-    held_here h = sym (le-leb m (greatest l 0 (words t)) (omega (arith, first)))
-
-    pub held_next : l w < m → leb m (greatest l 0 (words t)) ≡ leb m (greatest l 0 (words (take (length t - 2) (drop 2 t))))
-    held_next h = ap (leb m) first ∙ other m (l w) (greatest l 0 (words (take (length t - 2) (drop 2 t)))) h
+pub held_any : (m : ℕ) (f ws : List ℕ) → 1 ≤ m → within 1 (length f) ws ≡ true
+    → list_any (λ w. leb m (granted_to (get_or f (w - 1) 0))) ws ≡ leb m (greatest (level_of (granted f)) 0 ws)
+held_any m f [] o h = sym (lt-leb m (greatest (level_of (granted f)) 0 []) (omega (arith, greatest_none (level_of (granted f)) 0 [] refl)))
+held_any m f (w ∷ ws) o h =
+    let l = level_of (granted f) in
+    let k = within_cons 1 (length f) w ws h in
+    ap (λ b. leb m (granted_to (get_or f (w - 1) 0)) || b) (held_any m f ws o k.2) ∙ ap (λ n. leb m n || leb m (greatest l 0 ws)) (granted_level f w k.0 k.1)
+    ∙ sym (leb_either m (l w) (greatest l 0 ws))
+    ∙ ap (leb m) (sym (greatest_next (w ∷ ws) w ws refl l 0 (l w) (omega arith) ∙ greatest_from l (l w) ws))
 
 -- ---- a clause
 or_true : (b : Bool) → true ≡ (b || true)

@@ -1,28 +1,24 @@
 -- One turn of the functions on a clause.
 --   level_core, level_kept, level_other      the level of a group: the core, a kept group, one of the pool or another
---   greatest_end, greatest_next      no number is left; w, the first number of the part t
+--   greatest_none, greatest_next      no number is left; w, the first that is left
 --   greatest_from          the greatest level from m on is the greater of m and of that from 0 on
 --   level_at               the level of a variable
 --   capped                 a level that reaches the cap
 --   clause_none, clause_some, turn_less      a clause without a head changes nothing; another makes its head's level the lower one
 --   goal_other, goal_own   the least level of the goals after a clause: with a head, and without
---   fill_all               every level is filled
 -- Assumes nothing.
 use Prim.Native.Nat.{ℕ, zero, suc, ◌+◌, ◌-◌, ◌≤◌, ◌<◌, min, max}
-use mathlib.Core.Path.{◌≡◌, refl, sym, ap, ◌∙◌}
+use mathlib.Core.Path.{◌≡◌, sym, ap, ◌∙◌}
 use mathlib.Core.Logic.{◌≢◌}
-use mathlib.Core.List.{List, [], ◌∷◌, ◌++◌, append-nil}
+use mathlib.Core.List.{List, [], ◌∷◌}
 use mathlib.Core.Bool.{Bool, true, false, cond}
 use native.Mathlib.Omega.{arith}
-use lib.ListN.{length, get_or, take, drop, set, replicate}
-use lib.Seq.{drop-length}
+use lib.ListN.{length, get_or, set}
 use lib.Dec.{eqb}
 use borrow.Author.Tests.{eq-eqb, ne_eqb}
-use Rattle.field.specs.Words.{word_at, words}
-use Rattle.field.proofs.Words.{words_none, spelt}
-use Rattle.meaning.specs.Book.{clause_from}
+use Rattle.meaning.specs.Book.{Clause}
 use Rattle.meaning.specs.Choice.{digit}
-use Rattle.levels.specs.Levels.{never, group_level, level_of, greatest, lower, turn, goal_level, total}
+use Rattle.levels.specs.Levels.{never, group_level, level_of, greatest, clause_level, lower, turn, goal_level, total}
 use Rattle.levels.proofs.Thresholds.{default_any}
 use Rattle.levels.proofs.Totals.{total_set}
 
@@ -45,22 +41,14 @@ module _ (kept pool g : ℕ) where
   level_other p o k e = sym (by_digits o ∙ ap (λ (b : Bool). cond b 0 (cond (eqb (digit pool (g - 1)) 1) g never)) k ∙ ap (λ (b : Bool). cond b g never) e)
 
 -- ---- numbers one after the other
-none_left : (l : ℕ → ℕ) (m : ℕ) → greatest l m [] ≡ m
+pub greatest_none : (l : ℕ → ℕ) (m : ℕ) (left : List ℕ) → left ≡ [] → greatest l m left ≡ m
 unfolding greatest
-none_left l m = refl
-
-one_more : (l : ℕ → ℕ) (m w : ℕ) (ws : List ℕ) → greatest l m (w ∷ ws) ≡ greatest l (max m (l w)) ws
-unfolding greatest
-one_more l m w ws = refl
-
-pub greatest_end : (l : ℕ → ℕ) (m : ℕ) (t : List ℕ) → length t < 2 → greatest l m (words t) ≡ m
-greatest_end l m t h = ap (greatest l m) (words_none t h) ∙ none_left l m
+greatest_none l m left e = ap (greatest l m) e
 
 -- m' is the greater of m and of the first number's level
-pub greatest_next : (t : List ℕ) (w : ℕ) → 2 ≤ length t → w ≡ word_at t 0 → (l : ℕ → ℕ) (m m' : ℕ) → m' ≡ max m (l w)
-    → greatest l m (words t) ≡ greatest l m' (words (take (length t - 2) (drop 2 t)))
-greatest_next t w long is l m m' e =
-    ap (greatest l m) (spelt t w long is) ∙ one_more l m w (words (take (length t - 2) (drop 2 t))) ∙ ap (λ (k : ℕ). greatest l k (words (take (length t - 2) (drop 2 t)))) (sym e)
+pub greatest_next : (left : List ℕ) (w : ℕ) (rest : List ℕ) → left ≡ w ∷ rest → (l : ℕ → ℕ) (m m' : ℕ) → m' ≡ max m (l w) → greatest l m left ≡ greatest l m' rest
+unfolding greatest
+greatest_next left w rest is l m m' e = ap (greatest l m) is ∙ ap (λ (k : ℕ). greatest l k rest) (sym e)
 
 greatest_ge : (l : ℕ → ℕ) (m : ℕ) (ws : List ℕ) → m ≤ greatest l m ws
 unfolding greatest
@@ -81,30 +69,26 @@ pub capped : (cap m : ℕ) (l : ℕ → ℕ) (ws : List ℕ) → cap ≤ m → c
 capped cap m l ws h = omega (arith, greatest_ge l m ws)
 
 -- ---- the head
-module _ (kept pool : ℕ) (gs : List ℕ) (h : ℕ) (ws f : List ℕ) where
-  pub clause_none : h ≡ 0 → f ≡ turn kept pool (clause_from gs h ws) f
+module _ (kept pool : ℕ) (c : Clause) (f : List ℕ) where
+  pub clause_none : c.head ≡ 0 → f ≡ turn kept pool c f
   unfolding lower
-  clause_none e = ap (λ (k : ℕ). lower f k (greatest (level_of f) (greatest (group_level kept pool) 0 gs) ws)) (sym e)
+  clause_none e = ap (λ (k : ℕ). lower f k (clause_level kept pool f c)) (sym e)
 
-  pub clause_some : (l : ℕ) → h ≢ 0 → l ≡ min (get_or f (h - 1) 0) (greatest (level_of f) (greatest (group_level kept pool) 0 gs) ws)
-      → set f (h - 1) l ≡ turn kept pool (clause_from gs h ws) f
+  pub clause_some : (l : ℕ) → c.head ≢ 0 → l ≡ min (get_or f (c.head - 1) 0) (clause_level kept pool f c) → set f (c.head - 1) l ≡ turn kept pool c f
   unfolding lower
   clause_some l o e =
-      let q : h ≡ suc (h - 1) = omega arith in
-      ap (set f (h - 1)) e ∙ sym (ap (λ (k : ℕ). lower f k (greatest (level_of f) (greatest (group_level kept pool) 0 gs) ws)) q)
+      let q : c.head ≡ suc (c.head - 1) = omega arith in
+      ap (set f (c.head - 1)) e ∙ sym (ap (λ (k : ℕ). lower f k (clause_level kept pool f c)) q)
 
 pub turn_less : (f : List ℕ) (h l : ℕ) → h < length f → l ≤ get_or f h 0 → (get_or f h 0 - l) + total (set f h l) ≡ total f
 turn_less f h l k w = omega (arith, total_set f h l k)
 
 -- ---- goals
-module _ (kept pool : ℕ) (gs : List ℕ) (h : ℕ) (ws f : List ℕ) (m : ℕ) where
-  pub goal_other : h ≢ 0 → m ≡ goal_level kept pool f m (clause_from gs h ws ∷ [])
+module _ (kept pool : ℕ) (c : Clause) (f : List ℕ) (m : ℕ) where
+  pub goal_other : c.head ≢ 0 → m ≡ goal_level kept pool f m (c ∷ [])
   unfolding goal_level
-  goal_other o = sym (ap (λ (b : Bool). cond b (min m (greatest (level_of f) (greatest (group_level kept pool) 0 gs) ws)) m) (ne_eqb h 0 o))
+  goal_other o = sym (ap (λ (b : Bool). cond b (min m (clause_level kept pool f c)) m) (ne_eqb c.head 0 o))
 
-  pub goal_own : h ≡ 0 → min m (greatest (level_of f) (greatest (group_level kept pool) 0 gs) ws) ≡ goal_level kept pool f m (clause_from gs h ws ∷ [])
+  pub goal_own : c.head ≡ 0 → min m (clause_level kept pool f c) ≡ goal_level kept pool f m (c ∷ [])
   unfolding goal_level
-  goal_own e = sym (ap (λ (b : Bool). cond b (min m (greatest (level_of f) (greatest (group_level kept pool) 0 gs) ws)) m) (eq-eqb h 0 e))
-
-pub fill_all : (i l : ℕ) (f : List ℕ) → i ≡ length f → replicate i l ++ drop i f ≡ replicate (length f) l
-fill_all i l f e = ap (λ (k : ℕ). replicate k l ++ drop k f) e ∙ ap (λ (z : List ℕ). replicate (length f) l ++ z) (drop-length f) ∙ append-nil (replicate (length f) l)
+  goal_own e = sym (ap (λ (b : Bool). cond b (min m (clause_level kept pool f c)) m) (eq-eqb c.head 0 e))

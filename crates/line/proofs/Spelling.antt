@@ -5,7 +5,6 @@
 -- Assumes nothing.
 use Prim.Native.Nat.{ℕ, suc, ◌+◌, ◌-◌, ◌*◌, ◌≤◌, ◌<◌}
 use mathlib.Core.Path.{◌≡◌, refl, sym, ap, ◌∙◌}
-use mathlib.Core.Logic.{◌⊎◌, inl, inr}
 use mathlib.Core.List.{List, [], ◌∷◌}
 use mathlib.Core.Bool.{true, false, ◌&&◌, cond}
 use native.Mathlib.Omega.{arith}
@@ -13,10 +12,11 @@ use native.Mathlib.Decide.{dec_lt}
 use native.Mathlib.Numerals.{add-one}
 use lib.ListN.{length, get_or, drop, drop_of_length-le}
 use lib.Seq.{drop-cons}
-use borrow.Author.Tests.{lt-ltb, le-ltb, le-leb, lt-leb}
+use borrow.Author.Tests.{lt-ltb, le-ltb}
 use Rattle.text.specs.Lines.{is_digit, all_digits, digits, value_from, value}
 use Rattle.line.specs.Tokens.{most_spelt, cap, spelt}
-use Rattle.line.specs.declared.Spelt.TheVariants.{Number, Other}
+use Rattle.std.specs.Prelude.{None, Some}
+use Rattle.std.specs.Char.{is_ascii_digit}
 
 value_grows : (w : List ℕ) (n : ℕ) → n ≤ value_from n w
 unfolding value_from
@@ -31,16 +31,7 @@ cap_value w n = go (dec_lt most_spelt n)
     go (yes h) = omega (arith, value_grows w n, value_grows w (cap n))
     go (no h) = let e : cap n ≡ n = omega arith in ap (λ (m : ℕ). cap (value_from m w)) (sym e)
 
-no_digit : (a : ℕ) → (a < 48) ⊎ (57 < a) → is_digit a ≡ false
-unfolding is_digit
-no_digit a (inl h) = rw (lt-leb 48 a h)
-no_digit a (inr h) = rw (le-leb 48 a (omega arith), lt-leb a 57 h)
-
-digit : (a : ℕ) → 48 ≤ a → a ≤ 57 → is_digit a ≡ true
-unfolding is_digit
-digit a low high = rw (le-leb 48 a low, le-leb a 57 high)
-
-pub spelt_nothing : (w : List ℕ) → length w ≡ 0 → Other ≡ spelt w
+pub spelt_nothing : (w : List ℕ) → length w ≡ 0 → None ≡ spelt w
 unfolding spelt digits
 spelt_nothing w e = rw (le-ltb 0 (length w) (omega arith))
 
@@ -55,11 +46,11 @@ module _ (w : List ℕ) where
   reading_start n = record { some = omega (arith, n); rest = refl; number = refl; small = omega arith }
 
   module _ (n k : ℕ) (r : Reading n k) where
-    spelt_by : spelt w ≡ cond (all_digits w) (Number (cap (value w))) Other
+    spelt_by : spelt w ≡ cond (all_digits w) (Some (cap (value w))) None
     unfolding spelt digits
     spelt_by = rw (lt-ltb 0 (length w) r.some)
 
-    pub reading_end : length w ≤ k → Number n ≡ spelt w
+    pub reading_end : length w ≤ k → Some n ≡ spelt w
     unfolding all_digits value_from
     reading_end h =
         let z : drop k w ≡ [] = drop_of_length-le w h in
@@ -72,16 +63,17 @@ module _ (w : List ℕ) where
       unfolding all_digits
       heads = r.rest ∙ rw (drop-cons w k 0 h)
 
-      pub reading_other : (get_or w k 0 < 48) ⊎ (57 < get_or w k 0) → Other ≡ spelt w
-      reading_other o = sym (spelt_by ∙ rw (heads, no_digit (get_or w k 0) o))
+      pub reading_other : is_ascii_digit (get_or w k 0) ≡ false → None ≡ spelt w
+      unfolding is_digit
+      reading_other o = sym (spelt_by ∙ rw (heads, o))
 
-      pub reading_next : 48 ≤ get_or w k 0 → get_or w k 0 ≤ 57 → (m : ℕ) → m ≡ cap (10 * n + (get_or w k 0 - 48)) → Reading m (k + 1)
-      unfolding value_from
-      reading_next low high m e =
+      pub reading_next : is_ascii_digit (get_or w k 0) ≡ true → (m : ℕ) → m ≡ cap (10 * n + (get_or w k 0 - 48)) → Reading m (k + 1)
+      unfolding value_from is_digit
+      reading_next o m e =
           let v : value_from n (drop k w) ≡ value_from (10 * n + (get_or w k 0 - 48)) (drop (k + 1) w) = rw (drop-cons w k 0 h, add-one k) in
           record {
             some = r.some;
-            rest = heads ∙ rw (digit (get_or w k 0) low high, add-one k);
+            rest = heads ∙ rw (o, add-one k);
             number = r.number ∙ ap cap v ∙ cap_value (drop (k + 1) w) (10 * n + (get_or w k 0 - 48)) ∙ ap (λ (j : ℕ). cap (value_from j (drop (k + 1) w))) (sym e);
             small = omega (arith, e);
           }

@@ -1,30 +1,31 @@
 -- Laws of where lines and tokens lie.
 --   run_bound, gap_bound       a run, and a gap, is no longer than the bytes it is in
---   Running cuts t n           a walk along a run, n bytes on: none of these cuts
---   running_start, running_cut, running_next, running_end      such a walk: its start, at a byte that cuts, at another, at the end
---   ends_feed, ends_other, separates_blank, separates_tab      which bytes cut
+--   run_position               a run ends at the first byte that cuts, or where the bytes end
 --   pieces_last, pieces_run    the pieces of t by its run: t alone, or the run and the pieces after the byte that cuts it
 --   gap_run                    a gap is a run of bytes that separate
 --   none_gap                   a line has no token where it is all gap
 --   next_all, next_fits, next_some      the first token of a line, as code finds it
---   next_none, next_token      the tokens of a line by its first: none, or that one and the tokens after it
+--   First l t                  the first token of l is in the place t: it is not empty, it lies in l, and the other tokens follow it
+--   next_none, next_token      the tokens of a line by its first: none, or that one
 -- Assumes nothing.
 use Prim.Native.Nat.{ℕ, suc, ◌+◌, ◌-◌, ◌≤◌, ◌<◌}
-use mathlib.Core.Path.{◌≡◌, refl, sym, ap, ◌∙◌}
+use mathlib.Core.Path.{◌≡◌, refl, sym, ap, ◌∙◌, subst}
 use mathlib.Core.List.{List, [], ◌∷◌}
 use mathlib.Core.Bool.{Bool, true, false, not, cond}
 use native.Mathlib.Omega.{arith}
 use native.Mathlib.Decide.{dec_lt}
-use native.Mathlib.Numerals.{add-one}
 use lib.ListN.{length, get_or, take, drop, drop_of_length-le, length-drop}
 use lib.Seq.{length-take-le, take_all, drop-cons, drop-length, drop-drop}
-use lib.Dec.{eqb}
-use borrow.Author.Tests.{eq-eqb, ne_eqb, eqb-true, eqb-false}
+use lib.Dec.{ltb, eqb}
+use Rattle.std.specs.Prelude.{Option, None, Some, unwrap_or, position}
+use Rattle.std.specs.List.{position_or_len}
+use borrow.Author.Tests.{eq-eqb, ne_eqb, eqb-true, eqb-false, ltb-false}
 use Rattle.field.proofs.Parts.{part_end}
-use Rattle.text.specs.Lines.{joined, pieces, filled, ends, separates, tokens}
+use Rattle.text.specs.Lines.{joined, pieces, filled, separates, tokens}
 use Rattle.text.specs.Forms.{none}
 use Rattle.line.specs.Tokens.{run_of, gap_of, next_of}
-use Rattle.line.specs.declared.Next.TheVariants as NextV
+use Rattle.line.specs.Starts.{token_in}
+use Rattle.line.specs.declared.Token.{Token}
 
 module _ (cuts : ℕ → Bool) where
   pub run_bound : (t : List ℕ) → run_of cuts t ≤ length t
@@ -36,26 +37,22 @@ module _ (cuts : ℕ → Bool) where
       go true h = omega arith
       go false h = omega arith
 
-  pub record Running (t : List ℕ) (n : ℕ) : Type 0 where
-    pub all : run_of cuts t ≡ n + run_of cuts (drop n t)
-    pub place : n ≤ length t
-
-  pub running_start : (t : List ℕ) → Running t 0
-  running_start t = record { all = omega arith; place = omega arith }
-
-  pub running_cut : (t : List ℕ) (n : ℕ) → Running t n → n < length t → cuts (get_or t n 0) ≡ true → n ≡ run_of cuts t
+  -- the place that a search for the first byte that cuts gives
+  place_run : (t : List ℕ) → position_or_len cuts t ≡ run_of cuts t
   unfolding run_of
-  running_cut t n w h e = let z : run_of cuts (drop n t) ≡ 0 = rw (drop-cons t n 0 h, e) in omega (arith, w.all)
+  place_run [] = refl
+  place_run (a ∷ t) = go (cuts a) (place_run t)
+    where
+      go : (b : Bool) → position_or_len cuts t ≡ run_of cuts t → cond (not b) (1 + position_or_len cuts t) 0 ≡ cond b 0 (suc (run_of cuts t))
+      go true e = refl
+      go false e = omega (arith, e)
 
-  pub running_next : (t : List ℕ) (n : ℕ) → Running t n → n < length t → cuts (get_or t n 0) ≡ false → Running t (n + 1)
-  unfolding run_of
-  running_next t n w h e =
-      let z : run_of cuts (drop n t) ≡ suc (run_of cuts (drop (n + 1) t)) = rw (drop-cons t n 0 h, e, add-one n) in
-      record { all = omega (arith, w.all); place = omega arith }
-
-  pub running_end : (t : List ℕ) (n : ℕ) → Running t n → length t ≤ n → n ≡ run_of cuts t
-  unfolding run_of
-  running_end t n w h = let z : run_of cuts (drop n t) ≡ 0 = rw (drop_of_length-le t h) in omega (arith, w.all)
+  pub run_position : (t : List ℕ) (o : Option ℕ) → o ≡ position cuts t → unwrap_or o (length t) ≡ run_of cuts t
+  run_position t o e = rw (e, place_run t) (go (ltb (run_of cuts t) (length t)) refl)
+    where
+      go : (b : Bool) → ltb (run_of cuts t) (length t) ≡ b → unwrap_or (cond b (Some (run_of cuts t)) None) (length t) ≡ run_of cuts t
+      go true f = refl
+      go false f = omega (arith, run_bound t, ltb-false (run_of cuts t) (length t) f)
 
   pub pieces_last : (t : List ℕ) → run_of cuts t ≡ length t → pieces cuts t ≡ t ∷ []
   unfolding run_of pieces joined
@@ -88,23 +85,6 @@ module _ (cuts : ℕ → Bool) where
           → cond b 0 (suc (run_of cuts t)) < suc (length t) → cuts (get_or (a ∷ t) (cond b 0 (suc (run_of cuts t))) 0) ≡ true
       go true e again f = e
       go false e again f = again (omega arith)
-
-module _ (a : ℕ) where
-  pub ends_feed : a ≡ 10 → ends a ≡ true
-  unfolding ends
-  ends_feed e = eq-eqb a 10 e
-
-  pub ends_other : (a ≡ 10 → ⊥) → ends a ≡ false
-  unfolding ends
-  ends_other n = ne_eqb a 10 n
-
-  pub separates_blank : a ≡ 32 → eqb a 32 ≡ separates a
-  unfolding separates
-  separates_blank e = rw (eq-eqb a 32 e)
-
-  pub separates_tab : (a ≡ 32 → ⊥) → eqb a 9 ≡ separates a
-  unfolding separates
-  separates_tab n = rw (ne_eqb a 32 n)
 
 pub gap_run : (l : List ℕ) → gap_of l ≡ run_of (λ a. not (separates a)) l
 unfolding gap_of run_of
@@ -195,7 +175,7 @@ module _ (l : List ℕ) where
         tokens_gap l ∙ tokens_first u s ∙ simp (d, drop-drop) refl,
       )
 
-  pub next_all : (s : ℕ) → s ≡ gap_of l → s ≡ length l → NextV.None ≡ next_of l
+  pub next_all : (s : ℕ) → s ≡ gap_of l → s ≡ length l → None ≡ next_of l
   unfolding next_of
   next_all s g e = rw (eq-eqb (gap_of l) (length l) (sym g ∙ e))
 
@@ -204,32 +184,41 @@ module _ (l : List ℕ) where
     is_end : s + r ≡ end
     is_end = rw (e, part_end l s, g)
 
-    pub next_fits : s + r ≤ length l
-    next_fits = omega (arith, is_end, (after_gap (λ q. n (g ∙ q))).1)
+    pub next_fits : (s < s + r) × (s + r ≤ length l)
+    next_fits = let a = after_gap (λ q. n (g ∙ q)) in (omega (arith, is_end, a.0), omega (arith, is_end, a.1))
 
-    pub next_some : NextV.Token s (s + r) ≡ next_of l
+    pub next_some : Some (record { start = s; end = s + r }) ≡ next_of l
     unfolding next_of
     next_some = rw (is_end, g, ne_eqb (gap_of l) (length l) (λ q. n (g ∙ q)))
 
-  pub next_none : next_of l ≡ NextV.None → tokens l ≡ []
+  -- the first token, where the line has one or does not
+  abbrev found : Bool → Option Token
+  found b = cond b None (Some (record { start = gap_of l; end = end }))
+
+  pub next_none : next_of l ≡ None → tokens l ≡ []
   unfolding next_of
   next_none e = go (eqb (gap_of l) (length l)) refl e
     where
-      go : (b : Bool) → eqb (gap_of l) (length l) ≡ b → cond b NextV.None (NextV.Token (gap_of l) end) ≡ NextV.None → tokens l ≡ []
+      go : (b : Bool) → eqb (gap_of l) (length l) ≡ b → found b ≡ None → tokens l ≡ []
       go true t p = all_gap (eqb-true _ _ t)
-      go false t p = let z : ◌≡◌ {A = ℕ} 0 1 = cc in absurd (omega arith)
+      go false t p = cc
 
-  pub next_token : (s e : ℕ) → next_of l ≡ NextV.Token s e → (s < e) × (e ≤ length l) × (tokens l ≡ take (e - s) (drop s l) ∷ tokens (drop e l))
+  pub record First (t : Token) : Type 0 where
+    pub order : t.start < t.end
+    pub inside : t.end ≤ length l
+    pub here : tokens l ≡ token_in l t ∷ tokens (drop t.end l)
+
+  pub next_token : (t : Token) → next_of l ≡ Some t → First t
   unfolding next_of
-  next_token s e p = go (eqb (gap_of l) (length l)) refl p
+  next_token t p = go (eqb (gap_of l) (length l)) refl p
     where
-      go : (b : Bool) → eqb (gap_of l) (length l) ≡ b → cond b NextV.None (NextV.Token (gap_of l) end) ≡ NextV.Token s e
-          → (s < e) × (e ≤ length l) × (tokens l ≡ take (e - s) (drop s l) ∷ tokens (drop e l))
-      go true t q = let z : ◌≡◌ {A = ℕ} 0 1 = cc in absurd (omega arith)
-      go false t q =
-          let f : gap_of l ≡ s = cc in
-          let g : end ≡ e = cc in
-          rw (g, f) at (after_gap (eqb-false _ _ t))
+      go : (b : Bool) → eqb (gap_of l) (length l) ≡ b → found b ≡ Some t → First t
+      go true e q = cc
+      go false e q =
+          let u : Token = record { start = gap_of l; end = end } in
+          let i : u ≡ t = cc in
+          let a = after_gap (eqb-false _ _ e) in
+          subst First i (record { order = a.0; inside = a.1; here = a.2 })
 
   pub none_gap : none (tokens l) ≡ eqb (gap_of l) (length l)
   unfolding none

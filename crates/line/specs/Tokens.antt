@@ -1,16 +1,13 @@
 -- Where the lines of a text and the tokens of a line lie, and the numbers that tokens spell.
 --   run_of cuts t       how many bytes stand before the first at which t is cut
 --   gap_of l            how many blanks and tabs a line begins with
---   next_of l           the first token of a line, by where it begins and ends; or none
+--   next_of l           the first token of a line, by where it begins and ends, if it has one
 --   most_spelt, cap n   a number as far as two bytes hold it: what is above 65,535, which is beyond every limit, counts as that
---   spelt w            the number that a token of digits spells, as far as two bytes hold it; or other
+--   spelt w             the number that a token of digits spells, as far as two bytes hold it; nothing for another token
 -- Assumes nothing: these are definitions.
-use Rattle.std.specs.Prelude.{ℕ, suc, ◌+◌, min, List, [], ◌∷◌, Bool, cond, length, drop, eqb}
+use Rattle.std.specs.Prelude.{ℕ, suc, ◌+◌, min, List, [], ◌∷◌, Bool, cond, Option, None, Some, length, drop, eqb}
 use Rattle.text.specs.Lines.{separates, digits, value}
-use Rattle.line.specs.declared.Next.{Next}
-use Rattle.line.specs.declared.Next.TheVariants as NextV
-use Rattle.line.specs.declared.Spelt.{Spelt}
-use Rattle.line.specs.declared.Spelt.TheVariants as SpeltV
+use Rattle.line.specs.declared.Token.{Token}
 
 unfoldable pub run_of : (ℕ → Bool) → List ℕ → ℕ
 run_of cuts [] = 0
@@ -20,8 +17,10 @@ unfoldable pub gap_of : List ℕ → ℕ
 gap_of [] = 0
 gap_of (a ∷ l) = cond (separates a) (suc (gap_of l)) 0
 
-unfoldable pub next_of : List ℕ → Next
-next_of l = cond (eqb (gap_of l) (length l)) NextV.None (NextV.Token (gap_of l) (gap_of l + run_of separates (drop (gap_of l) l)))
+unfoldable pub next_of : List ℕ → Option Token
+next_of l =
+    cond (eqb (gap_of l) (length l)) None
+    (Some (record { start = gap_of l; end = gap_of l + run_of separates (drop (gap_of l) l) }))
 
 abbrev pub most_spelt : ℕ
 most_spelt = 65535
@@ -29,5 +28,5 @@ most_spelt = 65535
 abbrev pub cap : ℕ → ℕ
 cap n = min n most_spelt
 
-unfoldable pub spelt : List ℕ → Spelt
-spelt w = cond (digits w) (SpeltV.Number (cap (value w))) SpeltV.Other
+unfoldable pub spelt : List ℕ → Option ℕ
+spelt w = cond (digits w) (Some (cap (value w))) None

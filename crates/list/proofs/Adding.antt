@@ -1,9 +1,9 @@
 -- Records added one after the other.
---   adds_explanation, adds_repair      what a seed yields, by what is found within it
+--   found_explains, found_repairs      what a seed yields, by what is found within it
 --   Going                  on the way: the records that stand in the front of the words, and the seed that remains
 --   going_start            the records that were there
---   going_long, going_reads, going_seed      the words are as many as before; the records are read from them; a seed is a choice of the groups
---   added_long, added_reads, added_falls, going_more      one record more: it is read behind the others, what they leave lies below the seed, and so on
+--   going_seed             a seed is a choice of the groups
+--   added_reads, added_falls, going_more      one record more: it is read behind the others, what they leave lies below the seed, and so on
 --   going_done, going_full      no seed remains, and no round
 -- Assumes nothing.
 use Prim.Native.Nat.{ℕ, ◌+◌, ◌-◌, ◌*◌, ◌^◌, ◌≤◌, ◌<◌}
@@ -13,10 +13,9 @@ use mathlib.Core.List.{List, [], ◌∷◌, ◌++◌, head-eq_of_cons-eq}
 use mathlib.Core.Bool.{Bool, true, false, cond}
 use mathlib.Core.Option.{Option, some, none}
 use native.Mathlib.Omega.{arith}
+use Rattle.std.specs.Prelude.{Some, None}
 use lib.ListN.{length, drop, length-append}
-use Rattle.answer.specs.Answer.{answered}
 use Rattle.answer.specs.Space.{over}
-use Rattle.answer.proofs.Spaces.{length_over}
 use Rattle.meaning.specs.Book.{Book}
 use Rattle.meaning.specs.Choice.{complement}
 use Rattle.meaning.specs.Forced.{inconsistent}
@@ -25,11 +24,10 @@ use Rattle.rounds.specs.Rounds.{seed, smallest, found, listing, complete}
 use Rattle.rounds.proofs.Seeds.{seed_lt, complete_none, complete_some}
 use Rattle.rounds.proofs.Rounds.{allowed_falls, listing_zero, listing_next, listing_still}
 use Rattle.records.specs.Words.{record_words, room, records_of, kind_of, set_of, words_of, put_record, fault}
-use Rattle.records.proofs.Words.{words_length, length_records, record_back, records_read, records_kept, record_put}
+use Rattle.records.proofs.Words.{length_records, record_back, records_read, records_kept, record_put}
 use Rattle.path.specs.Paths.{Fits}
 use Rattle.explain.specs.Explains.{explained, within_is}
-use Rattle.explain.specs.declared.Within.TheVariants as WithinV
-use Rattle.list.specs.Lists.{listed_is, rounds, said, Adds, Rounding}
+use Rattle.list.specs.Lists.{rounds, said, Adds, Rounding}
 use Rattle.list.specs.declared.Listed.TheVariants as ListedV
 
 -- ---- what a seed yields
@@ -37,30 +35,21 @@ module _ (b : Book) (x : ℕ) where
   abbrev rule : Bool → Record
   rule t = elim t as (λ _. Record) [ true ↦ explains (smallest (inconsistent b) x) | false ↦ repairs (complement b.groups x) ]
 
-  is_some : (e : ℕ) → within_is (WithinV.Smallest e) ≡ explained b x → explains e ≡ found b.groups (inconsistent b) x
-  unfolding within_is explained found
-  is_some e q = go (inconsistent b x) q
+  pub found_explains : (e : ℕ) → within_is (Some e) ≡ explained b x → explains e ≡ found b.groups (inconsistent b) x
+  unfolding explained found
+  found_explains e q = go (inconsistent b x) q
     where
       go : (t : Bool) → (e ∷ []) ≡ cond t (smallest (inconsistent b) x ∷ []) [] → explains e ≡ rule t
       go true z = ap explains (head-eq_of_cons-eq z)
       go false z = let y : ◌≡◌ {A = ℕ} 1 0 = ap length z in absurd (omega arith)
 
-  is_none : within_is WithinV.Consistent ≡ explained b x → repairs (complement b.groups x) ≡ found b.groups (inconsistent b) x
-  unfolding within_is explained found
-  is_none q = go (inconsistent b x) q
+  pub found_repairs : within_is None ≡ explained b x → repairs (complement b.groups x) ≡ found b.groups (inconsistent b) x
+  unfolding explained found
+  found_repairs q = go (inconsistent b x) q
     where
       go : (t : Bool) → [] ≡ cond t (smallest (inconsistent b) x ∷ []) [] → repairs (complement b.groups x) ≡ rule t
       go false z = refl
       go true z = let y : ◌≡◌ {A = ℕ} 0 1 = ap length z in absurd (omega arith)
-
-  module _ (i : ℕ) (ws ws' : List ℕ) where
-    pub adds_explanation : (e : ℕ) → within_is (WithinV.Smallest e) ≡ explained b x → ws' ≡ put_record ws i 1 e → Adds b x i ws ws'
-    unfolding kind_of set_of
-    adds_explanation e q p = p ∙ ap (λ (r : Record). put_record ws i (kind_of r) (set_of r)) (is_some e q)
-
-    pub adds_repair : (n a : ℕ) → n ≡ b.groups → within_is WithinV.Consistent ≡ explained b x → a ≡ 2 ^ n - 1 → ws' ≡ put_record ws i 2 (a - x) → Adds b x i ws ws'
-    unfolding kind_of set_of
-    adds_repair n a en q e p = p ∙ ap (λ (k : ℕ). put_record ws i 2 (k - x)) (e ∙ ap (λ (k : ℕ). 2 ^ k - 1) en) ∙ ap (λ (r : Record). put_record ws i (kind_of r) (set_of r)) (is_none q)
 
 -- ---- a record as its words
 kind_is : (r : Record) → (kind_of r ≡ 1) ⊎ (kind_of r ≡ 2)
@@ -92,19 +81,13 @@ module _ (b : Book) (ws : List ℕ) (c most n : ℕ) (en : n ≡ b.groups) (h : 
       }
 
   module _ (ws' : List ℕ) (w : ℕ) (o : Option ℕ) (G : Going b ws c most ws' w o) where
-    pub going_long : length ws' ≡ length ws
-    going_long = ap length G.stands ∙ length_over (words_of G.rs) ws (omega (arith, words_length G.rs, G.counts, G.fits, h))
-
-    pub going_reads : records_of ws' w ≡ G.rs
-    going_reads = ap₂ records_of G.stands G.counts ∙ records_read G.rs (drop (length (words_of G.rs)) ws)
-
     pub going_seed : (x : ℕ) → o ≡ some x → x < 2 ^ n
     going_seed x e = subst (λ (k : ℕ). x < 2 ^ k) (sym en) (seed_lt b.groups G.rs x (sym G.next ∙ e))
 
     pub going_done : o ≡ none → Rounding b (most - c) (ListedV.Complete w) ws c ws'
-    unfolding listed_is said
+    unfolding said
     going_done e = (
-      ap₂ (λ (n k : ℕ). answered (n ∷ k ∷ [])) (G.counts ∙ ap length same)
+      ap₂ (λ (n k : ℕ). n ∷ k ∷ []) (G.counts ∙ ap length same)
           (sym (ap (λ (t : Bool). cond t 1 0) (ap (complete b.groups) (sym same) ∙ complete_none b.groups G.rs (sym G.next ∙ e)))),
       G.stands ∙ ap (λ (l : List Record). over (words_of l) ws) same,
     )
@@ -113,9 +96,9 @@ module _ (b : Book) (ws : List ℕ) (c most n : ℕ) (en : n ≡ b.groups) (h : 
         same = sym (listing_still b.groups (inconsistent b) (most - w) G.rs (sym G.next ∙ e)) ∙ G.goes
 
     pub going_full : (x : ℕ) → o ≡ some x → most ≤ w → Rounding b (most - c) (ListedV.Stopped w) ws c ws'
-    unfolding listed_is said
+    unfolding said
     going_full x e l = (
-      ap₂ (λ (n k : ℕ). answered (n ∷ k ∷ [])) (G.counts ∙ ap length same)
+      ap₂ (λ (n k : ℕ). n ∷ k ∷ []) (G.counts ∙ ap length same)
           (sym (ap (λ (t : Bool). cond t 1 0) (ap (complete b.groups) (sym same) ∙ complete_some b.groups G.rs x (sym G.next ∙ e)))),
       G.stands ∙ ap (λ (l : List Record). over (words_of l) ws) same,
     )
@@ -138,9 +121,6 @@ module _ (b : Book) (ws : List ℕ) (c most n : ℕ) (en : n ≡ b.groups) (h : 
           A ∙ ap (λ (u : List ℕ). put_record u w (kind_of r) (set_of r)) G.stands
           ∙ record_put G.rs ws w (kind_of r) (set_of r) G.counts (omega (arith, G.counts, l, h)) (kind_is r)
           ∙ ap (λ (q : Record). over (words_of (G.rs ++ (q ∷ []))) ws) (record_back r)
-
-      pub added_long : length ws'' ≡ length ws
-      added_long = ap length added_stands ∙ length_over (words_of more) ws (omega (arith, words_length more, more_length, l, h))
 
       pub added_reads : records_of ws'' (w + 1) ≡ more
       added_reads = ap₂ records_of added_stands more_length ∙ records_read more (drop (length (words_of more)) ws)

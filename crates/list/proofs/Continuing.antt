@@ -107,14 +107,14 @@ still_open s ws c O k us h =
     let b = book_of s in
     let rs = rounds b k ws c in
     let f : fault b.groups (over (words_of rs) us) (length rs) ≡ record_words * length rs = fine_fault b.groups rs us (small_rounds s ws c O k) in
-    opens_fine s (over (words_of rs) us) (length rs) O.is.read
+    opens_fine s (over (words_of rs) us) (length rs) b O.is.read
     (omega (arith, h, length_over (words_of rs) us (omega (arith, h, words_length rs)))) b.groups (fault b.groups (over (words_of rs) us) (length rs)) refl refl (omega (arith, f))
 
 pub still_lists : (s ws : List ℕ) (c : ℕ) → Opened s ws c → (k : ℕ) (us : List ℕ) (words : ℕ) → let rs = rounds (book_of s) k ws c in length rs ≤ room us → work_words ≤ words
     → lists s (over (words_of rs) us) (length rs) words ≡ answered (book_of s)
 still_lists s ws c O k us words h l =
     let rs = rounds (book_of s) k ws c in
-    lists_goes s (over (words_of rs) us) (length rs) words (still_open s ws c O k us h) l
+    lists_goes s (over (words_of rs) us) (length rs) words (book_of s) (still_open s ws c O k us h) l
 
 pub again : (s : List ℕ) → Bytes s → (ws : List ℕ) (c words k : ℕ) (ws' : List ℕ) (n m : ℕ) → k ≤ room ws - c → Tells (lists s ws c words) k ws c ws' n m
     → (words' : ℕ) → work_words ≤ words' → lists s ws' n words' ≡ answered (book_of s)

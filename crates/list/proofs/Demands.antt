@@ -13,8 +13,10 @@ use mathlib.Core.Logic.{◌↔◌}
 use mathlib.Core.List.{List, [], ◌∷◌, ◌++◌}
 use mathlib.Core.Bool.{Bool, true, false, cond}
 use native.Mathlib.Omega.{arith}
+use Rattle.std.specs.Prelude.{Result, Ok}
 use lib.ListN.{length}
 use Rattle.answer.specs.Answer.{answered}
+use Rattle.answer.specs.declared.Refusal.{Refusal}
 use Rattle.field.specs.Words.{Bytes}
 use Rattle.meaning.specs.Book.{Book}
 use Rattle.meaning.specs.Forced.{inconsistent}
@@ -50,7 +52,7 @@ zero_is false m e q = refl
 
 -- the call: s is the book, ws the words lent, and `words` the size of the working space
 module _ (s : List ℕ) (bytes : Bytes s) where
-  module _ (ws : List ℕ) (words : ℕ) (r : Listed) (work ws' work' : List ℕ) (L : Listing (lists s ws 0 words) (room ws - 0) r ws 0 work ws' work') where
+  module _ (ws : List ℕ) (words : ℕ) (r : Result Listed Refusal) (work ws' work' : List ℕ) (L : Listing (lists s ws 0 words) (room ws - 0) r ws 0 work ws' work') where
     pub listed : (n m : ℕ) → listed_is r ≡ answered (n ∷ m ∷ []) → Lists s ws ws' n m
     unfolding rounds
     listed n m e =
@@ -73,20 +75,18 @@ module _ (s : List ℕ) (bytes : Bytes s) where
             ∙ ap (λ (b : Book). listing_of b (room ws)) (sym o.1)
 
     module _ (n : ℕ) where
-      done : r ≡ ListedV.Complete n → Lists s ws ws' n 1
-      unfolding listed_is
+      done : r ≡ Ok (ListedV.Complete n) → Lists s ws ws' n 1
       done q = listed n 1 (ap listed_is q)
 
-      halted : r ≡ ListedV.Stopped n → Lists s ws ws' n 0
-      unfolding listed_is
+      halted : r ≡ Ok (ListedV.Stopped n) → Lists s ws ws' n 0
       halted q = listed n 0 (ap listed_is q)
 
-      pub list_complete : r ≡ ListedV.Complete n → Exactly (book_of s) (records_of ws' n)
+      pub list_complete : r ≡ Ok (ListedV.Complete n) → Exactly (book_of s) (records_of ws' n)
       list_complete q =
           let A = done q in
           subst (Exactly (book_of s)) (sym A.records) ((demand_2 s A.is).right (room ws) (one_is _ _ A.complete refl))
 
-      pub list_stopped : r ≡ ListedV.Stopped n → n ≡ room ws
+      pub list_stopped : r ≡ Ok (ListedV.Stopped n) → n ≡ room ws
       list_stopped q = let A = halted q in A.number ∙ ((demand_3 s A.is).stops (room ws)).1 (zero_is _ _ A.complete refl)
 
       module _ (m : ℕ) (e : listed_is r ≡ answered (n ∷ m ∷ [])) where
@@ -108,7 +108,7 @@ module _ (s : List ℕ) (bytes : Bytes s) where
             A.complete ∙ ap (λ (t : Bool). cond t 1 0) (complete_none b.groups (listing_of b (room ws)) (ends b.groups (inconsistent b) (room ws) [] h))
 
   -- two calls, the second in more room
-  module _ (ws vs : List ℕ) (words words' : ℕ) (r q : Listed) (work ws' w work' vs' w' : List ℕ)
+  module _ (ws vs : List ℕ) (words words' : ℕ) (r q : Result Listed Refusal) (work ws' w work' vs' w' : List ℕ)
       (L : Listing (lists s ws 0 words) (room ws - 0) r ws 0 work ws' w) (M : Listing (lists s vs 0 words') (room vs - 0) q vs 0 work' vs' w') where
     pub list_more : (n m n' m' : ℕ) → listed_is r ≡ answered (n ∷ m ∷ []) → listed_is q ≡ answered (n' ∷ m' ∷ []) → room ws ≤ room vs
         → (more : List Record) × (records_of vs' n' ≡ records_of ws' n ++ more)

@@ -1,7 +1,7 @@
 -- What a round and a listing answer and leave, by what the bytes and the words are.
 --   told_no, told_listed      a refusal; the answer of the rounds
 --   whole_room                a listing's rounds: as many as records still fit
---   listed_one, list_one      the answer determines `Listed`; the contract of `round` and of `list` determines the answer and both spaces
+--   listed_one, list_one      the answer determines the result; the contract of `round` and of `list` determines the answer and both spaces
 --   refuses                   a call refuses exactly where the table says so, by that number and place
 --   refusal_keeps             and then leaves both spaces as they came
 --   Tells, tells              any other answer: the count is the number of records, they are read from the words, and complete is said exactly where no seed remains
@@ -16,10 +16,14 @@ use mathlib.Core.List.{List, [], ◌∷◌, ◌++◌}
 use mathlib.Core.Bool.{Bool, cond}
 use mathlib.Core.Option.{some, none}
 use native.Mathlib.Omega.{arith}
+use Rattle.std.specs.Prelude.{Result, Ok, Err}
 use lib.ListN.{length, drop, length-append}
 use Rattle.answer.specs.Answer.{Answer, answered, refused, and_then}
+use Rattle.answer.specs.Refusals.{refusal_is}
+use Rattle.answer.specs.declared.Refusal.{Refusal}
 use Rattle.answer.specs.Space.{over}
 use Rattle.answer.proofs.Answers.{then_by, then_not, then_is}
+use Rattle.answer.proofs.Refusals.{answer_one}
 use Rattle.answer.proofs.Spaces.{laid_refused, laid_answered, length_over, over_over}
 use Rattle.meaning.specs.Book.{Book}
 use Rattle.meaning.specs.Forced.{inconsistent}
@@ -29,43 +33,39 @@ use Rattle.rounds.proofs.Rounds.{listing_zero, listing_next, listing_still, list
 use Rattle.records.specs.Words.{record_words, room, records_of, words_of}
 use Rattle.records.proofs.Words.{words_length, length_records, records_read}
 use Rattle.admit.specs.Admits.{zeros}
-use Rattle.list.specs.Lists.{listed_is, rounds, said, Rounding, Listing}
+use Rattle.list.specs.Lists.{told, listed_is, rounds, said, Rounding, Listing}
 use Rattle.list.specs.declared.Listed.{Listed}
 use Rattle.list.specs.declared.Listed.TheVariants as ListedV
 
 -- ---- what is told and left
-pub told_no : (a : Answer Book) (k n at : ℕ) (ws : List ℕ) (c : ℕ) (work : List ℕ) → a ≡ refused n at → Listing a k (ListedV.Refused n at) ws c work ws work
-unfolding listed_is
-told_no a k n at ws c work e =
-    (sym (then_not a n at _ e), sym (laid_refused _ ws n at (then_not a n at _ e)), sym (laid_refused _ work n at (then_not a n at _ e)))
+pub told_no : (a : Answer Book) (k : ℕ) (r : Refusal) (ws : List ℕ) (c : ℕ) (work : List ℕ) → a ≡ refusal_is r → Listing a k (Err r) ws c work ws work
+told_no a k r ws c work e =
+    (sym (then_not a _ _ _ e), sym (laid_refused _ ws _ _ (then_not a _ _ _ e)), sym (laid_refused _ work _ _ (then_not a _ _ _ e)))
 
 -- after m rounds at most, and that is k
 pub told_listed : (a : Answer Book) (k m : ℕ) (b : Book) (r : Listed) (ws : List ℕ) (c : ℕ) (work ws' work' : List ℕ) → a ≡ answered b → m ≡ k
-    → Rounding b m r ws c ws' → work' ≡ over zeros work → Listing a k r ws c work ws' work'
+    → Rounding b m r ws c ws' → work' ≡ over zeros work → Listing a k (Ok r) ws c work ws' work'
 told_listed a k m b r ws c work ws' work' e q t w = (
-  t.0 ∙ ap (λ (j : ℕ). answered (said b (rounds b j ws c))) q ∙ sym (then_by a b _ e),
+  ap answered (t.0 ∙ ap (λ (j : ℕ). said b (rounds b j ws c)) q) ∙ sym (then_by a b _ e),
   t.1 ∙ ap (λ (j : ℕ). over (words_of (rounds b j ws c)) ws) q ∙ sym (laid_answered _ ws _ (then_by a b _ e)),
   w ∙ sym (laid_answered _ work zeros (then_by a b _ e)),
 )
 
-pub whole_room : (a : Answer Book) (n k : ℕ) (r : Listed) (ws : List ℕ) (c : ℕ) (work ws' work' : List ℕ) → n ≡ k → Listing a (min n (k - c)) r ws c work ws' work'
+pub whole_room : (a : Answer Book) (n k : ℕ) (r : Result Listed Refusal) (ws : List ℕ) (c : ℕ) (work ws' work' : List ℕ) → n ≡ k → Listing a (min n (k - c)) r ws c work ws' work'
     → Listing a (k - c) r ws c work ws' work'
 whole_room a n k r ws c work ws' work' e L = subst (λ (j : ℕ). Listing a j r ws c work ws' work') (let z : min n (k - c) ≡ k - c = omega (arith, e) in z) L
 
 -- ---- the contract determines everything
-pub listed_one : (a b : Listed) → listed_is a ≡ listed_is b → a ≡ b
-unfolding listed_is
-listed_one (ListedV.Complete n) (ListedV.Complete m) e = cc
-listed_one (ListedV.Complete n) (ListedV.Stopped m) e = let z : ◌≡◌ {A = ℕ} 1 0 = cc in absurd (omega arith)
-listed_one (ListedV.Complete n) (ListedV.Refused m p) e = let z : ◌≡◌ {A = ℕ} 0 1 = cc in absurd (omega arith)
-listed_one (ListedV.Stopped n) (ListedV.Complete m) e = let z : ◌≡◌ {A = ℕ} 0 1 = cc in absurd (omega arith)
-listed_one (ListedV.Stopped n) (ListedV.Stopped m) e = cc
-listed_one (ListedV.Stopped n) (ListedV.Refused m p) e = let z : ◌≡◌ {A = ℕ} 0 1 = cc in absurd (omega arith)
-listed_one (ListedV.Refused n q) (ListedV.Complete m) e = let z : ◌≡◌ {A = ℕ} 0 1 = cc in absurd (omega arith)
-listed_one (ListedV.Refused n q) (ListedV.Stopped m) e = let z : ◌≡◌ {A = ℕ} 0 1 = cc in absurd (omega arith)
-listed_one (ListedV.Refused n q) (ListedV.Refused m p) e = cc
+told_one : (a b : Listed) → told a ≡ told b → a ≡ b
+told_one (ListedV.Complete n) (ListedV.Complete m) e = cc
+told_one (ListedV.Complete n) (ListedV.Stopped m) e = let z : ◌≡◌ {A = ℕ} 1 0 = cc in absurd (omega arith)
+told_one (ListedV.Stopped n) (ListedV.Complete m) e = let z : ◌≡◌ {A = ℕ} 0 1 = cc in absurd (omega arith)
+told_one (ListedV.Stopped n) (ListedV.Stopped m) e = cc
 
-pub list_one : (a : Answer Book) (k : ℕ) (r r' : Listed) (ws : List ℕ) (c : ℕ) (work v v' w w' : List ℕ) → Listing a k r ws c work v w → Listing a k r' ws c work v' w'
+pub listed_one : (a b : Result Listed Refusal) → listed_is a ≡ listed_is b → a ≡ b
+listed_one = answer_one told told_one
+
+pub list_one : (a : Answer Book) (k : ℕ) (r r' : Result Listed Refusal) (ws : List ℕ) (c : ℕ) (work v v' w w' : List ℕ) → Listing a k r ws c work v w → Listing a k r' ws c work v' w'
     → (r ≡ r') × (v ≡ v') × (w ≡ w')
 list_one a k r r' ws c work v v' w w' p q = (listed_one r r' (p.0 ∙ sym q.0), p.1 ∙ sym q.1, p.2 ∙ sym q.2)
 
@@ -76,18 +76,17 @@ refused_is (answered b) f n at e = let z : ◌≡◌ {A = ℕ} 0 1 = cc in absur
 refused_is (refused m p) f n at e = cc
 
 -- the call on the words ws, with c records there, of at most k rounds
-module _ (a : Answer Book) (k : ℕ) (r : Listed) (ws : List ℕ) (c : ℕ) (work ws' work' : List ℕ) (L : Listing a k r ws c work ws' work') where
-  pub refuses : (n at : ℕ) → (r ≡ ListedV.Refused n at) ↔ (a ≡ refused n at)
-  unfolding listed_is
-  refuses n at = (
-    (λ q. refused_is a (λ b. said b (rounds b k ws c)) n at (sym (ap listed_is q) ∙ L.0)),
-    (λ e. listed_one r (ListedV.Refused n at) (L.0 ∙ then_not a n at _ e)),
+module _ (a : Answer Book) (k : ℕ) (r : Result Listed Refusal) (ws : List ℕ) (c : ℕ) (work ws' work' : List ℕ) (L : Listing a k r ws c work ws' work') where
+  pub refuses : (q : Refusal) → (r ≡ Err q) ↔ (a ≡ refusal_is q)
+  refuses q = (
+    (λ e. refused_is a (λ b. said b (rounds b k ws c)) _ _ (sym (ap listed_is e) ∙ L.0)),
+    (λ e. listed_one r (Err q) (L.0 ∙ then_not a _ _ _ e)),
   )
 
-  pub refusal_keeps : (n at : ℕ) → r ≡ ListedV.Refused n at → (ws' ≡ ws) × (work' ≡ work)
-  refusal_keeps n at q =
-      let e = (refuses n at).0 q in
-      (L.1 ∙ laid_refused _ ws n at (then_not a n at _ e), L.2 ∙ laid_refused _ work n at (then_not a n at _ e))
+  pub refusal_keeps : (q : Refusal) → r ≡ Err q → (ws' ≡ ws) × (work' ≡ work)
+  refusal_keeps q e =
+      let d = (refuses q).0 e in
+      (L.1 ∙ laid_refused _ ws _ _ (then_not a _ _ _ d), L.2 ∙ laid_refused _ work _ _ (then_not a _ _ _ d))
 
 -- n is the count that is answered, and m is 1 for complete and 0 for stopped
 pub record Tells (a : Answer Book) (k : ℕ) (ws : List ℕ) (c : ℕ) (ws' : List ℕ) (n m : ℕ) : Type 0 where
@@ -98,7 +97,7 @@ pub record Tells (a : Answer Book) (k : ℕ) (ws : List ℕ) (c : ℕ) (ws' : Li
   pub complete : m ≡ cond (complete book.groups (rounds book k ws c)) 1 0
   pub stands : ws' ≡ over (words_of (rounds book k ws c)) ws
 
-pub tells : (a : Answer Book) (k : ℕ) (r : Listed) (ws : List ℕ) (c : ℕ) (work ws' work' : List ℕ) → Listing a k r ws c work ws' work'
+pub tells : (a : Answer Book) (k : ℕ) (r : Result Listed Refusal) (ws : List ℕ) (c : ℕ) (work ws' work' : List ℕ) → Listing a k r ws c work ws' work'
     → (n m : ℕ) → listed_is r ≡ answered (n ∷ m ∷ []) → Tells a k ws c ws' n m
 unfolding said
 tells a k r ws c work ws' work' L n m e =
@@ -188,7 +187,7 @@ module _ (b : Book) (ws us : List ℕ) (c : ℕ) (few : c ≤ room ws) (larger :
       let t = listing_extends b.groups bad (room vs - n) (records_of vs n) in
       omega (arith, words_length first, words_length (rounds b (room vs - n) vs n), ap length t.1 ∙ length-append (records_of vs n) t.0, ap length read)
 
-  pub go_on : (a d : Answer Book) (r q : Listed) (work vs' w us' w' : List ℕ) → a ≡ answered b → d ≡ answered b
+  pub go_on : (a d : Answer Book) (r q : Result Listed Refusal) (work vs' w us' w' : List ℕ) → a ≡ answered b → d ≡ answered b
       → Listing a (room vs - n) r vs n work vs' w → Listing d (room us - c) q us c work us' w' → (r ≡ q) × (vs' ≡ us') × (w ≡ w')
   go_on a d r q work vs' w us' w' e f L M = (
     listed_one r q (L.0 ∙ then_by a b _ e ∙ ap (λ (rs : List Record). answered (said b rs)) rounds_go_on ∙ sym (M.0 ∙ then_by d b _ f)),

@@ -1,13 +1,14 @@
 -- What stands before rounds and listings: the refusals in their order.
 --   before_end, at_end     whether that place is a fault, by the whole records before it
 --   opens_no, opens_many, opens_fault, opens_fine      the book's refusals; 14 for the count, and for a word; none
+--   read_as                what `check` accepts is read from the bytes
 --   open_one               the contract of `open` determines its answer
---   Opened, open_book      what an answer of `open` says of them
+--   Opened, opened         what an accepted call says
 --   lists_no, lists_tight, lists_goes      what follows for a call: the same refusals, 11, none
 --   lists_open             where a call goes on, the book is accepted, and the records are well formed and have room
 -- Assumes nothing.
 use Prim.Native.Nat.{ℕ, suc, ◌*◌, ◌/◌, ◌≤◌, ◌<◌}
-use mathlib.Core.Path.{◌≡◌, sym, ap, ◌∙◌}
+use mathlib.Core.Path.{◌≡◌, refl, sym, ap, ◌∙◌, subst}
 use mathlib.Core.List.{List, [], ◌∷◌}
 use mathlib.Core.Bool.{Bool, cond}
 use native.Mathlib.Omega.{arith}
@@ -15,19 +16,25 @@ use lib.Dec.{ltb}
 use lib.ListN.{length, take}
 use lib.Seq.{length-take-le}
 use borrow.Author.Tests.{lt-ltb, le-ltb, ltb-false}
+use Rattle.std.specs.Prelude.{Result, Ok, Err, IfOk}
+use Rattle.std.specs.Borrow.{Bor}
 use Rattle.answer.specs.Answer.{Answer, answered, refused, and_then, ◌⇒◌, first}
+use Rattle.answer.specs.Refusals.{answer_is}
+use Rattle.answer.specs.declared.Refusal.{Refusal}
 use Rattle.answer.proofs.Answers.{then_by, then_not, then_is, unless_none, unless_some, unless_is}
 use Rattle.answer.proofs.Tests.{first_clear}
 use Rattle.field.specs.Words.{Bytes}
 use Rattle.meaning.specs.Book.{Book}
 use Rattle.records.specs.Words.{record_words, room, fault}
 use Rattle.records.proofs.Words.{fault_le}
+use Rattle.book.specs.Check.{numbers_of, checked_is}
 use Rattle.book.specs.Reading.{reading}
 use Rattle.book.specs.Walk.{taken, book_of, IsBook}
-use Rattle.admit.specs.Admits.{admitted_is, work_words}
-use Rattle.admit.specs.declared.Admitted.{Admitted}
-use Rattle.admit.specs.declared.Admitted.TheVariants as AdmittedV
-use Rattle.admit.proofs.Admits.{admitted_one, three_of, book_is}
+use Rattle.book.specs.Clauses.{meant}
+use Rattle.book.specs.declared.accepted.Book.{Book as Found}
+use Rattle.book.proofs.Checks.{checked_one}
+use Rattle.book.proofs.Walk.{is_book}
+use Rattle.admit.specs.Admits.{work_words}
 use Rattle.list.specs.Lists.{opens, lists}
 
 -- whole records stand before the place: fewer than c where it lies within the first c, and not where it is their end
@@ -59,39 +66,55 @@ module _ (s ws : List ℕ) (c : ℕ) where
   unfolding opens
   opens_no n at e = then_not _ n at _ e
 
-  module _ (is : reading s ≡ answered (book_of s)) where
+  module _ (b : Book) (is : reading s ≡ answered b) where
     pub opens_many : room ws < c → opens s ws c ≡ refused 14 (length ws)
     unfolding opens
-    opens_many h = then_by _ (book_of s) _ is ∙ unless_some 14 _ _ _ (holds (room ws) c 14 h) (λ e. omega arith)
+    opens_many h = then_by _ b _ is ∙ unless_some 14 _ _ _ (holds (room ws) c 14 h) (λ e. omega arith)
 
-    module _ (few : c ≤ room ws) (n at : ℕ) (en : n ≡ (book_of s).groups) (ea : at ≡ fault n ws c) where
-      same : at ≡ fault (book_of s).groups ws c
+    module _ (few : c ≤ room ws) (n at : ℕ) (en : n ≡ b.groups) (ea : at ≡ fault n ws c) where
+      same : at ≡ fault b.groups ws c
       same = ea ∙ ap (λ (k : ℕ). fault k ws c) en
 
       pub opens_fault : at < record_words * c → opens s ws c ≡ refused 14 at
       unfolding opens
       opens_fault h =
-          then_by _ (book_of s) _ is ∙ unless_none _ _ _ (fails (room ws) c 14 few)
-          ∙ unless_some 14 _ _ _ (holds (fault (book_of s).groups ws c) (record_words * c) 14 (omega (arith, same, h))) (λ e. omega arith)
+          then_by _ b _ is ∙ unless_none _ _ _ (fails (room ws) c 14 few)
+          ∙ unless_some 14 _ _ _ (holds (fault b.groups ws c) (record_words * c) 14 (omega (arith, same, h))) (λ e. omega arith)
           ∙ ap (refused 14) (sym same)
 
-      pub opens_fine : record_words * c ≤ at → opens s ws c ≡ answered (book_of s)
+      pub opens_fine : record_words * c ≤ at → opens s ws c ≡ answered b
       unfolding opens
       opens_fine h =
-          then_by _ (book_of s) _ is ∙ unless_none _ _ _ (fails (room ws) c 14 few)
-          ∙ unless_none _ _ _ (fails (fault (book_of s).groups ws c) (record_words * c) 14 (omega (arith, same, h)))
+          then_by _ b _ is ∙ unless_none _ _ _ (fails (room ws) c 14 few)
+          ∙ unless_none _ _ _ (fails (fault b.groups ws c) (record_words * c) 14 (omega (arith, same, h)))
 
--- ---- the answer of `open`
-pub open_one : (a : Answer Book) (r r' : Admitted) → admitted_is r ≡ and_then a three_of → admitted_is r' ≡ and_then a three_of → r ≡ r'
-open_one a r r' p q = admitted_one r r' (p ∙ sym q)
+-- where `check` accepts
+pub read_as : (b : Found) (s : List ℕ) → b.bytes.now ≡ s → reading s ≡ answered (meant b)
+read_as b s same = subst (λ (t : List ℕ). reading t ≡ answered (meant b)) same (is_book b.bytes.now b.accepted).read
 
+-- ---- the contract of `open` determines its answer
+numbers : (r : Result Found Refusal) → checked_is r ≡ and_then (answer_is meant r) (λ b. answered (numbers_of b))
+unfolding and_then
+numbers (Ok b) =
+    let v = b.variables_are in
+    let g = b.groups_are in
+    let n = b.clauses_are in
+    cc
+numbers (Err s) = refl
+
+pub open_one : (a : Answer Book) (bytes : Bor (List ℕ)) (r r' : Result Found Refusal) → answer_is meant r ≡ a → IfOk r (λ b. b.bytes ≡ bytes)
+    → answer_is meant r' ≡ a → IfOk r' (λ b. b.bytes ≡ bytes) → r ≡ r'
+open_one a bytes r r' p e q d =
+    checked_one bytes r r' e d (numbers r ∙ ap (λ (a : Answer Book). and_then a (λ b. answered (numbers_of b))) (p ∙ sym q) ∙ sym (numbers r'))
+
+-- ---- what an accepted call says
 pub record Opened (s ws : List ℕ) (c : ℕ) : Type 0 where
   pub is : IsBook s
   pub has : opens s ws c ≡ answered (book_of s)
   pub few : c ≤ room ws
   pub right : fault (book_of s).groups ws c ≡ record_words * c
 
-opened : (s ws : List ℕ) (c : ℕ) (b : Book) → Bytes s → opens s ws c ≡ answered b → Opened s ws c × (book_of s ≡ b)
+pub opened : (s ws : List ℕ) (c : ℕ) (b : Book) → Bytes s → opens s ws c ≡ answered b → Opened s ws c × (book_of s ≡ b)
 unfolding opens book_of taken
 opened s ws c b bytes e =
     let t = then_is (reading s) _ b e in
@@ -110,27 +133,20 @@ opened s ws c b bytes e =
       k,
     )
 
-pub open_book : (s ws : List ℕ) (c v g m : ℕ) → Bytes s → admitted_is (AdmittedV.Book v g m) ≡ and_then (opens s ws c) three_of
-    → Opened s ws c × (v ≡ (book_of s).variables) × (g ≡ (book_of s).groups) × (m ≡ length (book_of s).clauses)
-open_book s ws c v g m bytes e =
-    let t = book_is (opens s ws c) v g m e in
-    let o = opened s ws c t.0 bytes t.1 in
-    (o.0, t.2 ∙ ap (λ (b : Book). b.variables) (sym o.1), t.3 ∙ ap (λ (b : Book). b.groups) (sym o.1), t.4 ∙ ap (λ (b : Book). length b.clauses) (sym o.1))
-
 -- ---- a call
 module _ (s ws : List ℕ) (c words : ℕ) where
   pub lists_no : (n at : ℕ) → opens s ws c ≡ refused n at → lists s ws c words ≡ refused n at
   unfolding lists
   lists_no n at e = then_not _ n at _ e
 
-  module _ (has : opens s ws c ≡ answered (book_of s)) where
+  module _ (b : Book) (has : opens s ws c ≡ answered b) where
     pub lists_tight : words < work_words → lists s ws c words ≡ refused 11 0
     unfolding lists
-    lists_tight h = then_by _ (book_of s) _ has ∙ unless_some 11 _ _ _ (holds words work_words 11 h) (λ e. omega arith)
+    lists_tight h = then_by _ b _ has ∙ unless_some 11 _ _ _ (holds words work_words 11 h) (λ e. omega arith)
 
-    pub lists_goes : work_words ≤ words → lists s ws c words ≡ answered (book_of s)
+    pub lists_goes : work_words ≤ words → lists s ws c words ≡ answered b
     unfolding lists
-    lists_goes h = then_by _ (book_of s) _ has ∙ unless_none _ _ _ (fails words work_words 11 h)
+    lists_goes h = then_by _ b _ has ∙ unless_none _ _ _ (fails words work_words 11 h)
 
   pub lists_open : (b : Book) → Bytes s → lists s ws c words ≡ answered b → Opened s ws c × (book_of s ≡ b)
   unfolding lists

@@ -1,5 +1,6 @@
 -- What one round and a listing answer, and what they leave.
---   listed_is r            the answer that `Listed` is: the count, and 1 for complete or 0 for stopped; or the refusal
+--   told r                what a listing tells: the count, and 1 for complete or 0 for stopped
+--   listed_is r            the answer that a result is: what the listing tells, or the refusal
 --   opens s ws c          the book that s is, where c records of it can stand in the words ws; or the refusal: the book's, then 14
 --   lists s ws c words    the same, where the working space has `words` words; or the refusal: then 11
 --   rounds b k ws c       the first c records of ws, and what at most k rounds add to them
@@ -9,8 +10,10 @@
 --                         words stay
 --   Listing a k r ws c work ws' work'      the same of the book that a is, or the refusal; and work becomes work'
 -- Assumes nothing: these are definitions.
-use Rattle.std.specs.Prelude.{ℕ, ◌*◌, ◌≡◌, List, [], ◌∷◌, cond, ltb, length}
-use Rattle.answer.specs.Answer.{Answer, answered, refused, and_then, ◌⇒◌, first, unless}
+use Rattle.std.specs.Prelude.{ℕ, Result, ◌*◌, ◌≡◌, List, [], ◌∷◌, cond, ltb, length}
+use Rattle.answer.specs.Answer.{Answer, answered, and_then, ◌⇒◌, first, unless}
+use Rattle.answer.specs.Refusals.{answer_is}
+use Rattle.answer.specs.declared.Refusal.{Refusal}
 use Rattle.answer.specs.Space.{over, laid}
 use Rattle.meaning.specs.Book.{Book}
 use Rattle.meaning.specs.Forced.{inconsistent}
@@ -22,10 +25,12 @@ use Rattle.admit.specs.Admits.{work_words, zeros}
 use Rattle.list.specs.declared.Listed.{Listed}
 use Rattle.list.specs.declared.Listed.TheVariants as ListedV
 
-unfoldable pub listed_is : Listed → Answer (List ℕ)
-listed_is (ListedV.Complete n) = answered (n ∷ 1 ∷ [])
-listed_is (ListedV.Stopped n) = answered (n ∷ 0 ∷ [])
-listed_is (ListedV.Refused n at) = refused n at
+abbrev pub told : Listed → List ℕ
+told (ListedV.Complete n) = n ∷ 1 ∷ []
+told (ListedV.Stopped n) = n ∷ 0 ∷ []
+
+abbrev pub listed_is : Result Listed Refusal → Answer (List ℕ)
+listed_is = answer_is told
 
 unfoldable pub opens : List ℕ → List ℕ → ℕ → Answer Book
 opens s ws c =
@@ -47,9 +52,9 @@ abbrev pub Adds : Book → ℕ → ℕ → List ℕ → List ℕ → Type 0
 Adds b x i ws ws' = let r = found b.groups (inconsistent b) x in ws' ≡ put_record ws i (kind_of r) (set_of r)
 
 abbrev pub Rounding : Book → ℕ → Listed → (ws : List ℕ) (c : ℕ) (ws' : List ℕ) → Type 0
-Rounding b k r ws c ws' = (listed_is r ≡ answered (said b (rounds b k ws c))) × (ws' ≡ over (words_of (rounds b k ws c)) ws)
+Rounding b k r ws c ws' = (told r ≡ said b (rounds b k ws c)) × (ws' ≡ over (words_of (rounds b k ws c)) ws)
 
-abbrev pub Listing : Answer Book → ℕ → Listed → (ws : List ℕ) (c : ℕ) (work ws' work' : List ℕ) → Type 0
+abbrev pub Listing : Answer Book → ℕ → Result Listed Refusal → (ws : List ℕ) (c : ℕ) (work ws' work' : List ℕ) → Type 0
 Listing a k r ws c work ws' work' =
     (listed_is r ≡ and_then a (λ b. answered (said b (rounds b k ws c))))
     × (ws' ≡ laid (and_then a (λ b. answered (words_of (rounds b k ws c)))) ws)

@@ -2,171 +2,144 @@
 // with the lines that they must give, from an implementation of its own; it says there how a case is laid out.
 #![tactic(auto)]
 
-use explain::Explained;
+use answer::Refusal;
+use case_io::Number;
 use list::Listed;
 use std::io::{self, Read, Write};
 
-fn text_consistent<W: Write>(to: &mut W) -> io::Result<()> {
-    to.write_all(b"consistent")
-}
-
-fn text_explanation<W: Write>(to: &mut W) -> io::Result<()> {
-    to.write_all(b"explanation")
-}
-
-fn text_complete<W: Write>(to: &mut W) -> io::Result<()> {
-    to.write_all(b"complete")
-}
-
-fn text_stopped<W: Write>(to: &mut W) -> io::Result<()> {
-    to.write_all(b"stopped")
-}
-
-fn tell_explained<W: Write>(to: &mut W, answer: Explained) -> io::Result<()> {
+fn tell_explained<W: Write>(to: &mut W, answer: Result<Option<u32>, Refusal>) -> io::Result<()> {
     match answer {
-        Explained::Consistent => text_consistent(to),
-        Explained::Explanation { groups } => {
-            text_explanation(to)?;
+        Ok(None) => to.write_all(b"consistent"),
+        Ok(Some(groups)) => {
+            to.write_all(b"explanation")?;
             case_io::put(to, groups as u64)
         }
-        Explained::Refused { number, place } => case_io::tell_refused(to, number, place),
+        Err(refusal) => case_io::tell_refused(to, refusal.cause.number(), refusal.place),
     }
 }
 
-fn tell_listed<W: Write>(to: &mut W, answer: Listed) -> io::Result<()> {
+fn tell_listed<W: Write>(to: &mut W, answer: Result<Listed, Refusal>) -> io::Result<()> {
     match answer {
-        Listed::Complete { records } => {
-            text_complete(to)?;
+        Ok(Listed::Complete { records }) => {
+            to.write_all(b"complete")?;
             case_io::put(to, records as u64)
         }
-        Listed::Stopped { records } => {
-            text_stopped(to)?;
+        Ok(Listed::Stopped { records }) => {
+            to.write_all(b"stopped")?;
             case_io::put(to, records as u64)
         }
-        Listed::Refused { number, place } => case_io::tell_refused(to, number, place),
+        Err(refusal) => case_io::tell_refused(to, refusal.cause.number(), refusal.place),
     }
 }
 
 // The call on spaces of the case's own sizes: its answer, and the whole of each space after it.
 fn run_explain<W: Write>(to: &mut W, book: &[u8], choice: u32, work: &mut [u16]) -> io::Result<()> {
-    case_io::fill_words(work);
+    case_io::fill(work);
     tell_explained(to, explain::explain(book, choice, work))?;
-    case_io::put(to, case_io::sum_words(work))?;
-    case_io::end_line(to)
+    case_io::put(to, case_io::sum(work))?;
+    tell::end_line(to)
 }
 
-fn listed(call: u8, book: &[u8], records: &mut [u32], count: usize, work: &mut [u16]) -> Listed {
-    if call == 6 {
-        return list::round(book, records, count, work);
-    }
-    list::list(book, records, count, work)
-}
-
-fn run_listing<W: Write>(
+fn run_listing<
+    W: Write,
+    F: FnOnce(&[u8], &mut [u32], usize, &mut [u16]) -> Result<Listed, Refusal>,
+>(
     to: &mut W,
-    call: u8,
+    call: F,
     book: &[u8],
     records: &mut [u32],
     count: usize,
     work: &mut [u16],
-) -> io::Result<()> {
-    case_io::fill_words(work);
-    tell_listed(to, listed(call, book, records, count, work))?;
-    case_io::put(to, case_io::sum_records(records))?;
-    case_io::put(to, case_io::sum_words(work))?;
-    case_io::end_line(to)
+) -> io::Result<()>
+    requires { F.IsAlwaysCallable call }
+{
+    case_io::fill(work);
+    tell_listed(to, call(book, records, count, work))?;
+    case_io::put(to, case_io::sum(records))?;
+    case_io::put(to, case_io::sum(work))?;
+    tell::end_line(to)
 }
 
 // What is left of a case of explain, and its run.
-fn next_explain<R: Read, W: Write>(
+fn explain_case<R: Read, W: Write>(
     input: &mut R,
     to: &mut W,
-    n: usize,
-    bytes: &mut [u8],
+    len: usize,
     work: &mut [u16],
 ) -> io::Result<()> {
-    let choice = case_io::next_four(input)?;
-    case_io::take_bytes(input, n, bytes)?;
-    if bytes.len() < n {
-        return Ok(());
+    let choice = u32::next(input)?;
+    let mut bytes = [0u8; 65600];
+    case_io::take_runs(input, len, &mut bytes)?;
+    match bytes.get(..len) {
+        Some(book) => run_explain(to, book, choice, work),
+        None => Ok(()),
     }
-    run_explain(to, &bytes[..n], choice, work)
-}
-
-// The case's part of each space.
-fn listing_parts<W: Write>(
-    to: &mut W,
-    call: u8,
-    n: usize,
-    bytes: &[u8],
-    room: usize,
-    records: &mut [u32],
-    count: usize,
-    work: &mut [u16],
-) -> io::Result<()> {
-    if bytes.len() < n {
-        return Ok(());
-    }
-    if records.len() < room {
-        return Ok(());
-    }
-    run_listing(to, call, &bytes[..n], &mut records[..room], count, work)
 }
 
 // What is left of a case of round or list, and its run. The records that the case gives stand first, and after them what stands in lent space before a
 // call.
-fn next_listing<R: Read, W: Write>(
-    input: &mut R,
-    to: &mut W,
-    call: u8,
-    n: usize,
-    bytes: &mut [u8],
-    work: &mut [u16],
-) -> io::Result<()> {
-    let count = case_io::next_eight(input)?;
-    let room = case_io::next_two(input)?;
-    let given = case_io::next_two(input)?;
+fn listing_case<
+    R: Read,
+    W: Write,
+    F: FnOnce(&[u8], &mut [u32], usize, &mut [u16]) -> Result<Listed, Refusal> + Drop,
+>(input: &mut R, to: &mut W, call: F, len: usize, work: &mut [u16]) -> io::Result<()>
+    requires { F.IsAlwaysCallable call }
+{
+    let count = u64::next(input)? as usize;
+    let room = u16::next(input)? as usize;
+    let given = u16::next(input)? as usize;
     let mut records = [0u32; 1100];
-    case_io::fill_records(&mut records);
+    case_io::fill(&mut records);
     case_io::take_records(input, given, &mut records)?;
-    case_io::take_bytes(input, n, bytes)?;
-    listing_parts(to, call, n, bytes, room, &mut records, count, work)
+    let mut bytes = [0u8; 65600];
+    case_io::take_runs(input, len, &mut bytes)?;
+    if bytes.len() < len || records.len() < room {
+        return Ok(());
+    }
+    run_listing(to, call, &bytes[..len], &mut records[..room], count, work)
 }
 
-fn run_call<R: Read, W: Write>(
-    input: &mut R,
-    to: &mut W,
-    call: u8,
-    n: usize,
-    bytes: &mut [u8],
-    words: usize,
-    work: &mut [u16],
-) -> io::Result<()> {
+// The call of a case.
+#[derive(Clone, Copy)]
+enum Call {
+    Explain,
+    Round,
+    List,
+}
+
+// The next call; none at the end of the cases.
+fn next_call<R: Read>(input: &mut R) -> io::Result<Option<Call>> {
+    Ok(match u8::next(input)? {
+        0 => None,
+        5 => Some(Call::Explain),
+        6 => Some(Call::Round),
+        _ => Some(Call::List),
+    })
+}
+
+// A case that asks for more than the program's own spaces have runs no call.
+fn run_case<R: Read, W: Write>(input: &mut R, to: &mut W, call: Call) -> io::Result<()> {
+    let len = u32::next(input)? as usize;
+    let words = u16::next(input)? as usize;
+    let mut work = [0u16; 8300];
     if work.len() < words {
         return Ok(());
     }
-    if call == 5 {
-        next_explain(input, to, n, bytes, &mut work[..words])
-    } else {
-        next_listing(input, to, call, n, bytes, &mut work[..words])
+    let work = &mut work[..words];
+    match call {
+        Call::Explain => explain_case(input, to, len, work),
+        Call::Round => listing_case(input, to, list::round, len, work),
+        Call::List => listing_case(input, to, list::list, len, work),
     }
 }
 
-fn next_case<R: Read, W: Write>(input: &mut R, to: &mut W, call: u8) -> io::Result<()> {
-    let n = case_io::next_four(input)? as usize;
-    let words = case_io::next_two(input)?;
-    let mut bytes = [0u8; 65600];
-    let mut work = [0u16; 8300];
-    run_call(input, to, call, n, &mut bytes, words, &mut work)
-}
-
+// Each program of cases has this loop, since each has calls of its own: one in case_io would take a closure over both streams, and be no shorter.
 fn run_cases<R: Read, W: Write>(input: &mut R, to: &mut W) -> io::Result<()> {
-    for _ in 0..100000u32 {
-        let call = case_io::next_call(input)?;
-        if call == 0 {
-            return Ok(());
+    for _ in 0..case_io::MOST_CASES {
+        match next_call(input)? {
+            Some(call) => run_case(input, to, call)?,
+            None => return Ok(()),
         }
-        next_case(input, to, call)?;
     }
     Ok(())
 }

@@ -1,4 +1,5 @@
 // The listing program on more bytes than a book can have (stdin).
+// A program of its own, as lister is, since a stored run is a crate with its stdin and stdout.
 #![tactic(auto)]
 
 use std::io;

@@ -1,4 +1,5 @@
 // The listing program on a book with more records than there is room for (stdin).
+// A program of its own, as lister is, since a stored run is a crate with its stdin and stdout.
 #![tactic(auto)]
 
 use std::io;

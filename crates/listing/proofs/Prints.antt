@@ -9,7 +9,10 @@ use mathlib.Core.Path.{◌≡◌, refl, sym, ap, ◌∙◌}
 use mathlib.Core.List.{List, [], ◌∷◌}
 use mathlib.Core.Bool.{Bool, true, false, cond}
 use native.Mathlib.Omega.{arith}
+use Rattle.std.specs.Prelude.{Result, Ok, Err}
 use Rattle.answer.specs.Answer.{Answer, answered, refused}
+use Rattle.answer.specs.Refusals.{refusal_is}
+use Rattle.answer.specs.declared.Refusal.{Refusal}
 use Rattle.meaning.specs.Book.{Book}
 use Rattle.meaning.specs.Forced.{inconsistent}
 use Rattle.rounds.specs.Records.{Record}
@@ -39,17 +42,17 @@ zero_is : (b : Bool) → ◌≡◌ {A = ℕ} 0 (cond b 1 0) → b ≡ false
 zero_is true e = absurd (omega arith)
 zero_is false e = refl
 
-not_both : (a : Answer Book) (b : Book) (n at : ℕ) → a ≡ answered b → a ≡ refused n at → ⊥
-not_both a b n at e f = let g : answered b ≡ refused n at = sym e ∙ f in let z : ◌≡◌ {A = ℕ} 0 1 = cc in absurd (omega arith)
+not_both : (a : Answer Book) (b : Book) (q : Refusal) → a ≡ answered b → a ≡ refusal_is q → ⊥
+not_both a b q e f = let g : answered b ≡ refusal_is q = sym e ∙ f in let z : ◌≡◌ {A = ℕ} 0 1 = cc in absurd (omega arith)
 
 -- the call of an accepted book: ws the words lent, and `words` the size of the working space
-module _ (s : List ℕ) (is : IsBook s) (ws : List ℕ) (words : ℕ) (enough : 8192 ≤ words) (r : Listed) (work ws' work' : List ℕ)
+module _ (s : List ℕ) (is : IsBook s) (ws : List ℕ) (words : ℕ) (enough : 8192 ≤ words) (r : Result Listed Refusal) (work ws' work' : List ℕ)
     (L : Listing (lists s ws 0 words) (room ws - 0) r ws 0 work ws' work') where
   goes : lists s ws 0 words ≡ answered (book_of s)
-  goes = lists_goes s ws 0 words (opens_fine s ws 0 is.read (omega arith) (book_of s).groups (fault (book_of s).groups ws 0) refl refl (omega arith)) enough
+  goes = lists_goes s ws 0 words (book_of s) (opens_fine s ws 0 (book_of s) is.read (omega arith) (book_of s).groups (fault (book_of s).groups ws 0) refl refl (omega arith)) enough
 
-  pub no_refusal : (n at : ℕ) → r ≡ ListedV.Refused n at → ⊥
-  no_refusal n at e = not_both _ (book_of s) n at goes ((refuses _ _ r ws 0 work ws' work' L n at).0 e)
+  pub no_refusal : (q : Refusal) → r ≡ Err q → ⊥
+  no_refusal q e = not_both _ (book_of s) q goes ((refuses _ _ r ws 0 work ws' work' L q).0 e)
 
   told : (n m : ℕ) → listed_is r ≡ answered (n ∷ m ∷ []) → Lists s ws ws' n m
   told n m e = listed s is.bytes ws words r work ws' work' L n m e
@@ -65,9 +68,8 @@ module _ (s : List ℕ) (is : IsBook s) (ws : List ℕ) (words : ℕ) (enough : 
       ∙ ap (λ (b : Bool). listing_text (book_of s).groups (listing_of (book_of s) (room ws)) b) (sym d)
       ∙ ap (λ (a : Answer Book). answer_text a (room ws)) (sym is.read)
 
-  module _ (n : ℕ) (e : r ≡ ListedV.Complete n) where
+  module _ (n : ℕ) (e : r ≡ Ok (ListedV.Complete n)) where
     complete_is : listed_is r ≡ answered (n ∷ 1 ∷ [])
-    unfolding listed_is
     complete_is = ap listed_is e
 
     pub complete_few : n ≤ room ws
@@ -76,9 +78,8 @@ module _ (s : List ℕ) (is : IsBook s) (ws : List ℕ) (words : ℕ) (enough : 
     pub complete_text : (g : ℕ) → g ≡ (book_of s).groups → listing_text g (records_of ws' n) true ≡ printed s (room ws)
     complete_text g q = let T = told n 1 complete_is in text n 1 g true T q (one_is _ T.complete)
 
-  module _ (n : ℕ) (e : r ≡ ListedV.Stopped n) where
+  module _ (n : ℕ) (e : r ≡ Ok (ListedV.Stopped n)) where
     stopped_is : listed_is r ≡ answered (n ∷ 0 ∷ [])
-    unfolding listed_is
     stopped_is = ap listed_is e
 
     pub stopped_few : n ≤ room ws

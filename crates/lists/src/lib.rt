@@ -3,11 +3,12 @@
 // is tested before it is used.
 #![tactic(auto)]
 
-ghost use Rattle.std.specs.Prelude.{◌≡◌, true, ◌+◌, ◌≤◌, ◌<◌};
+ghost use Rattle.std.specs.Prelude.{◌≡◌, true, ◌+◌, ◌≤◌, ◌<◌, length, IfSome};
 ghost use Rattle.field.specs.Words.{words, within};
-ghost use Rattle.book.specs.Bytes.{most_groups};
-ghost use Rattle.lists.specs.Space.{Small, Room, Listed, Aside};
+ghost use Rattle.book.specs.Bytes.{most_variables, most_groups, most_clauses};
+ghost use Rattle.lists.specs.Space.{Listed, Aside};
 
+use book::Book;
 use levels::NEVER;
 
 // Where things lie in the working space. Levels come first, one word a variable, and then the places of the clauses, where each starts in the book. The words
@@ -24,298 +25,268 @@ const GROUPS: usize = 99;
 
 const VARIABLES: usize = 132;
 
-// The first word behind levels and places. It holds the least level that a goal has got.
-fn lists(variables: u16, clauses: u16) -> usize
-    ensures { result ≡ variables + clauses }
-{
-    variables as usize + clauses as usize
+// How the working space is laid out for a book, by how many variables and clauses it has.
+#[derive(Clone, Copy)]
+pub struct Layout {
+    pub variables: u16,
+    pub clauses: u16,
+    pub ghost few_variables: { variables ≤ most_variables },
+    pub ghost few_clauses: { clauses ≤ most_clauses },
 }
 
-// The list of the clauses that are due at a level.
-pub fn due(level: u16, variables: u16, clauses: u16) -> usize
-    requires { (level ≤ most_groups) × Small variables clauses }
-    ensures { Listed variables clauses result }
-{
-    lists(variables, clauses) + DUE + level as usize
-}
-
-// The list of the clauses that wait at a group.
-pub fn at_group(group: u16, variables: u16, clauses: u16) -> usize
-    requires { (group ≤ most_groups) × Small variables clauses }
-    ensures { Listed variables clauses result }
-{
-    lists(variables, clauses) + GROUPS + group as usize
-}
-
-// The list of the clauses that wait at a variable.
-pub fn at_variable(variable: u16, variables: u16, clauses: u16) -> usize
-    requires { (1 ≤ variable) × (variable ≤ variables) × Small variables clauses }
-    ensures { Listed variables clauses result }
-{
-    lists(variables, clauses) + VARIABLES + (variable as usize - 1)
-}
-
-// The link of a clause, counted from 0.
-fn link(clause: u16, variables: u16, clauses: u16) -> usize
-    requires { (clause < clauses) × Small variables clauses }
-    ensures { Listed variables clauses result }
-{
-    lists(variables, clauses) + VARIABLES + variables as usize + clause as usize
-}
-
-// The first word behind the lists, which are the last thing in use here.
-pub fn end(variables: u16, clauses: u16) -> usize
-    requires { Small variables clauses }
-    ensures { result + 1024 ≤ 8192 }
-{
-    lists(variables, clauses) + VARIABLES + variables as usize + clauses as usize
-}
-
-// A clause becomes the first of a list.
-pub fn push(clause: u16, list: usize, variables: u16, clauses: u16, work: &mut [u16])
-    requires { (clause < clauses) × Listed variables clauses list × Room variables clauses work.old }
-    ensures { Aside variables clauses work.old work.new }
-{
-    let at = link(clause, variables, clauses);
-    let next = work[list];
-    work[at] = next;
-    work[list] = clause + 1;
-}
-
-// The first clause of a list, plus 1, is taken off; 0 if there is none.
-pub fn pop(list: usize, variables: u16, clauses: u16, work: &mut [u16]) -> u16
-    requires { Listed variables clauses list × Room variables clauses work.old }
-    ensures { (result ≤ clauses) × Aside variables clauses work.old work.new }
-{
-    let first = work[list];
-    if first == 0 {
-        return 0;
-    }
-    if clauses < first {
-        return 0;
-    }
-    let at = link(first - 1, variables, clauses);
-    let next = work[at];
-    work[list] = next;
-    first
-}
-
-// The clauses of one list go to another. No clause stands in two lists, so there are no more than the book has.
-fn move_all(from: usize, to: usize, variables: u16, clauses: u16, work: &mut [u16])
-    requires { Listed variables clauses from × Listed variables clauses to × Room variables clauses work.old }
-    ensures { Aside variables clauses work.old work.new }
-{
-    let mut left = clauses;
-    while 0 < left {
-        let next = pop(from, variables, clauses, work);
-        if next == 0 {
-            return;
-        }
-        push(next - 1, to, variables, clauses, work);
-        left -= 1;
-    }
-}
-
-// The clauses that wait at a variable become due at its level.
-pub fn wake(variable: u16, level: u16, variables: u16, clauses: u16, work: &mut [u16])
-    requires { (1 ≤ variable) × (variable ≤ variables) × Room variables clauses work.old }
-    ensures { Aside variables clauses work.old work.new }
-{
-    if NEVER <= level {
-        return;
-    }
-    let from = at_variable(variable, variables, clauses);
-    let to = due(level, variables, clauses);
-    move_all(from, to, variables, clauses, work);
-}
-
-// Some words become this one.
-fn put_all(word: u16, from: usize, past: usize, variables: u16, clauses: u16, work: &mut [u16])
-    requires { (variables + clauses ≤ from) × (past ≤ 8192) × Room variables clauses work.old }
-    ensures { Aside variables clauses work.old work.new }
-{
-    let mut i = from;
-    while i < past {
-        work[i] = word;
-        i += 1;
-    }
-}
-
-// The lists become empty, and no goal has a level.
-pub fn empty_lists(variables: u16, clauses: u16, work: &mut [u16])
-    requires { Room variables clauses work.old }
-    ensures { Aside variables clauses work.old work.new }
-{
-    let first = lists(variables, clauses);
-    let from = first + DUE;
-    let past = first + VARIABLES + variables as usize;
-    put_all(0, from, past, variables, clauses, work);
-    work[first] = NEVER;
-}
-
-// The list in which a clause begins whose groups have a level. Where they are there from the start it waits at the first variable of its body, which has no
-// level yet.
-pub fn first_list(body: &[u8], level: u16, variables: u16, clauses: u16) -> usize
-    requires { (within 1 variables (words body.now) ≡ true) × (level ≤ most_groups) × Small variables clauses }
-    ensures { Listed variables clauses result }
-{
-    if level == 0 {
-        if body.len() >= 2 {
-            let variable = field::word_at(body, 0);
-            return at_variable(variable, variables, clauses);
-        }
-    }
-    due(level, variables, clauses)
-}
-
-// The least level that a goal has got.
-pub fn least(variables: u16, clauses: u16, work: &[u16]) -> u16
-    requires { Room variables clauses work.now }
-{
-    let at = lists(variables, clauses);
-    work[at]
-}
-
-// The goal that has it, if there is one.
-pub fn goal(variables: u16, clauses: u16, work: &[u16]) -> u16
-    requires { Room variables clauses work.now }
-{
-    let at = lists(variables, clauses) + GOAL;
-    work[at]
-}
-
-// The least level of the goals, and the goal that has it, are remembered.
-pub fn note_goal(clause: u16, level: u16, variables: u16, clauses: u16, work: &mut [u16])
-    requires { Room variables clauses work.old }
-    ensures { Aside variables clauses work.old work.new }
-{
-    let least = lists(variables, clauses);
-    if work[least] <= level {
-        return;
-    }
-    let goal = least + GOAL;
-    work[least] = level;
-    work[goal] = clause;
-}
-
-// The least level of the goals after a pass that ended at a group, for the next pass.
-pub fn lower_goal(group: u16, variables: u16, clauses: u16, work: &mut [u16])
-    requires { (1 ≤ group) × Room variables clauses work.old }
-    ensures { Aside variables clauses work.old work.new }
-{
-    let least = lists(variables, clauses);
-    if work[least] < group {
-        return;
-    }
-    work[least] = group - 1;
-}
-
-// Whether a run need not go on: not the whole of it is asked for, and a goal has no higher level.
-pub fn is_enough(whole: bool, level: u16, variables: u16, clauses: u16, work: &[u16]) -> bool
-    requires { Room variables clauses work.now }
-{
-    if whole {
-        return false;
-    }
-    least(variables, clauses, work) <= level
-}
-
-// The lists after a pass that ended at a group, for the next pass: what was left to do at the group and what waits at it is due at once; what was left above
-// it is of groups that are no longer in the pool.
-pub fn keep_lists(group: u16, variables: u16, clauses: u16, work: &mut [u16])
-    requires { (group ≤ most_groups) × Room variables clauses work.old }
-    ensures { Aside variables clauses work.old work.new }
-{
-    let first = due(0, variables, clauses);
-    let left = due(group, variables, clauses);
-    move_all(left, first, variables, clauses, work);
-    let from = due(1, variables, clauses);
-    let past = at_group(0, variables, clauses);
-    put_all(0, from, past, variables, clauses, work);
-    let waiting = at_group(group, variables, clauses);
-    move_all(waiting, first, variables, clauses, work);
-}
-
-// The word that tells of a variable, among others, whether it is left aside.
-fn aside_word(variable: u16, variables: u16, clauses: u16) -> usize
-    requires { (1 ≤ variable) × (variable ≤ variables) × Small variables clauses }
-    ensures { Listed variables clauses result }
-{
-    lists(variables, clauses) + ASIDE + (variable as usize - 1) / 16
-}
-
-// The bit of that word which tells it.
+// The bit that tells of a variable whether it is left aside, in the word for that.
 fn aside_bit(variable: u16) -> u16
     requires { 1 ≤ variable }
 {
     1u16 << ((variable - 1) % 16)
 }
 
-// Whether a head is a variable that is left aside. A goal's is none.
-pub fn is_aside(head: u16, variables: u16, clauses: u16, work: &[u16]) -> bool
-    requires { (head ≤ variables) × Room variables clauses work.now }
-{
-    if head == 0 {
-        return false;
-    }
-    let at = aside_word(head, variables, clauses);
-    (work[at] & aside_bit(head)) != 0
-}
-
-// The words that tell it become this one: 65535 tells it of every variable, and 0 of none.
-fn put_aside(word: u16, variables: u16, clauses: u16, work: &mut [u16])
-    requires { Room variables clauses work.old }
-    ensures { Aside variables clauses work.old work.new }
-{
-    let from = lists(variables, clauses) + ASIDE;
-    let past = due(0, variables, clauses);
-    put_all(word, from, past, variables, clauses, work);
-}
-
-// Every variable is left aside.
-pub fn leave_all_aside(variables: u16, clauses: u16, work: &mut [u16])
-    requires { Room variables clauses work.old }
-    ensures { Aside variables clauses work.old work.new }
-{
-    put_aside(65535, variables, clauses, work);
-}
-
-// No variable is left aside.
-pub fn leave_none_aside(variables: u16, clauses: u16, work: &mut [u16])
-    requires { Room variables clauses work.old }
-    ensures { Aside variables clauses work.old work.new }
-{
-    put_aside(0, variables, clauses, work);
-}
-
-// A variable is not left aside. Whether it was.
-fn bring_back(variable: u16, variables: u16, clauses: u16, work: &mut [u16]) -> bool
-    requires { (1 ≤ variable) × (variable ≤ variables) × Room variables clauses work.old }
-    ensures { Aside variables clauses work.old work.new }
-{
-    let at = aside_word(variable, variables, clauses);
-    let bit = aside_bit(variable);
-    let word = work[at];
-    if (word & bit) == 0 {
-        return false;
-    }
-    work[at] = word ^ bit;
-    true
-}
-
-// The variables of a body are not left aside. Whether one of them was.
-pub fn bring_back_all(body: &[u8], variables: u16, clauses: u16, work: &mut [u16]) -> bool
-    requires { (within 1 variables (words body.now) ≡ true) × Room variables clauses work.old }
-    ensures { Aside variables clauses work.old work.new }
-{
-    let mut t = body;
-    let mut found = false;
-    while t.len() >= 2 {
-        let w = field::word_at(t, 0);
-        if bring_back(w, variables, clauses, work) {
-            found = true;
+impl Layout {
+    // That of a book.
+    pub fn of(book: &Book) -> Layout
+        ensures variables { result.variables ≡ book.now.variables }
+        ensures clauses { result.clauses ≡ book.now.clauses }
+    {
+        Layout {
+            variables: book.variables,
+            clauses: book.clauses,
         }
-        t = &t[2..];
     }
-    found
+
+    // The word that has the place of a clause, counted from 0.
+    pub fn entry(self, clause: u16) -> usize
+        ensures { result ≡ self.variables + clause }
+    {
+        self.variables as usize + clause as usize
+    }
+
+    // The first word behind levels and places. It holds the least level that a goal has got.
+    fn lists(self) -> usize
+        ensures { result ≡ self.variables + self.clauses }
+    {
+        self.variables as usize + self.clauses as usize
+    }
+
+    // The list of the clauses that are due at a level.
+    pub fn due(self, level: u16) -> usize
+        requires { level ≤ most_groups }
+        ensures { Listed self.variables self.clauses result }
+    {
+        self.lists() + DUE + level as usize
+    }
+
+    // The list of the clauses that wait at a group.
+    pub fn at_group(self, group: u16) -> usize
+        requires { group ≤ most_groups }
+        ensures { Listed self.variables self.clauses result }
+    {
+        self.lists() + GROUPS + group as usize
+    }
+
+    // The list of the clauses that wait at a variable.
+    pub fn at_variable(self, variable: u16) -> usize
+        requires { (1 ≤ variable) × (variable ≤ self.variables) }
+        ensures { Listed self.variables self.clauses result }
+    {
+        self.lists() + VARIABLES + (variable as usize - 1)
+    }
+
+    // The link of a clause.
+    fn link(self, clause: u16) -> usize
+        requires { clause < self.clauses }
+        ensures { Listed self.variables self.clauses result }
+    {
+        self.lists() + VARIABLES + self.variables as usize + clause as usize
+    }
+
+    // The first word behind the lists, which are the last thing in use here.
+    pub fn end(self) -> usize
+        ensures { result + 1024 ≤ 8192 }
+    {
+        self.lists() + VARIABLES + self.variables as usize + self.clauses as usize
+    }
+
+    // A clause becomes the first of a list.
+    pub fn push(self, clause: u16, list: usize, work: &mut [u16])
+        requires { (clause < self.clauses) × Listed self.variables self.clauses list × (8192 ≤ length work.old) }
+        ensures { Aside self.variables self.clauses work.old work.new }
+    {
+        work[self.link(clause)] = work[list];
+        work[list] = clause + 1;
+    }
+
+    // The first clause of a list, if there is one, is taken off.
+    pub fn pop(self, list: usize, work: &mut [u16]) -> Option<u16>
+        requires { Listed self.variables self.clauses list × (8192 ≤ length work.old) }
+        ensures { IfSome result (λ clause. clause < self.clauses) × Aside self.variables self.clauses work.old work.new }
+    {
+        let clause = work[list].checked_sub(1)?;
+        if self.clauses <= clause {
+            return None;
+        }
+        work[list] = work[self.link(clause)];
+        Some(clause)
+    }
+
+    // The clauses of one list go to another. No clause stands in two lists, so there are no more than the book has.
+    fn move_all(self, from: usize, to: usize, work: &mut [u16])
+        requires { Listed self.variables self.clauses from × Listed self.variables self.clauses to × (8192 ≤ length work.old) }
+        ensures { Aside self.variables self.clauses work.old work.new }
+    {
+        for _ in 0..self.clauses {
+            let Some(clause) = self.pop(from, work) else {
+                return;
+            };
+            self.push(clause, to, work);
+        }
+    }
+
+    // The clauses that wait at a variable become due at its level.
+    pub fn wake(self, variable: u16, level: u16, work: &mut [u16])
+        requires { (1 ≤ variable) × (variable ≤ self.variables) × (8192 ≤ length work.old) }
+        ensures { Aside self.variables self.clauses work.old work.new }
+    {
+        if level < NEVER {
+            self.move_all(self.at_variable(variable), self.due(level), work);
+        }
+    }
+
+    // The lists become empty, and no goal has a level.
+    pub fn empty_lists(self, work: &mut [u16])
+        requires { 8192 ≤ length work.old }
+        ensures { Aside self.variables self.clauses work.old work.new }
+    {
+        let first = self.lists();
+        work[first + DUE..first + VARIABLES + self.variables as usize].fill(0);
+        work[first] = NEVER;
+    }
+
+    // The list in which a clause begins whose groups have a level. Where they are there from the start it waits at the first variable of its body, which has no
+    // level yet.
+    pub fn first_list(self, body: &[u8], level: u16) -> usize
+        requires { (within 1 self.variables (words body.now) ≡ true) × (level ≤ most_groups) }
+        ensures { Listed self.variables self.clauses result }
+    {
+        match field::words_of(body).next() {
+            Some(variable) if level == 0 => self.at_variable(variable),
+            _ => self.due(level),
+        }
+    }
+
+    // The least level that a goal has got.
+    pub fn least(self, work: &[u16]) -> u16
+        requires { 8192 ≤ length work.now }
+    {
+        work[self.lists()]
+    }
+
+    // The goal that has it, if there is one.
+    pub fn goal(self, work: &[u16]) -> Option<u16>
+        requires { 8192 ≤ length work.now }
+        ensures { IfSome result (λ clause. clause < self.clauses) }
+    {
+        let clause = work[self.lists() + GOAL];
+        if self.clauses <= clause {
+            return None;
+        }
+        Some(clause)
+    }
+
+    // The least level of the goals, and the goal that has it, are remembered.
+    pub fn note_goal(self, clause: u16, level: u16, work: &mut [u16])
+        requires { 8192 ≤ length work.old }
+        ensures { Aside self.variables self.clauses work.old work.new }
+    {
+        let least = self.lists();
+        if level < work[least] {
+            work[least] = level;
+            work[least + GOAL] = clause;
+        }
+    }
+
+    // The least level of the goals after a pass that ended at a group, for the next pass.
+    pub fn lower_goal(self, group: u16, work: &mut [u16])
+        requires { (1 ≤ group) × (8192 ≤ length work.old) }
+        ensures { Aside self.variables self.clauses work.old work.new }
+    {
+        let least = self.lists();
+        work[least] = work[least].min(group - 1);
+    }
+
+    // The lists after a pass that ended at a group, for the next pass: what was left to do at the group and what waits at it is due at once; what was left
+    // above it is of groups that are no longer in the pool.
+    pub fn keep_lists(self, group: u16, work: &mut [u16])
+        requires { (group ≤ most_groups) × (8192 ≤ length work.old) }
+        ensures { Aside self.variables self.clauses work.old work.new }
+    {
+        let first = self.due(0);
+        self.move_all(self.due(group), first, work);
+        let lists = self.lists();
+        work[lists + DUE + 1..lists + GROUPS].fill(0);
+        self.move_all(self.at_group(group), first, work);
+    }
+
+    // The word that tells of a variable, among others, whether it is left aside.
+    fn aside_word(self, variable: u16) -> usize
+        requires { (1 ≤ variable) × (variable ≤ self.variables) }
+        ensures { Listed self.variables self.clauses result }
+    {
+        self.lists() + ASIDE + (variable as usize - 1) / 16
+    }
+
+    // Whether a head is a variable that is left aside. A goal's is none.
+    pub fn is_aside(self, head: u16, work: &[u16]) -> bool
+        requires { (head ≤ self.variables) × (8192 ≤ length work.now) }
+    {
+        head != 0 && (work[self.aside_word(head)] & aside_bit(head)) != 0
+    }
+
+    // The words that tell it become this one: 65535 tells it of every variable, and 0 of none.
+    fn put_aside(self, word: u16, work: &mut [u16])
+        requires { 8192 ≤ length work.old }
+        ensures { Aside self.variables self.clauses work.old work.new }
+    {
+        let lists = self.lists();
+        work[lists + ASIDE..lists + DUE].fill(word);
+    }
+
+    // Every variable is left aside.
+    pub fn leave_all_aside(self, work: &mut [u16])
+        requires { 8192 ≤ length work.old }
+        ensures { Aside self.variables self.clauses work.old work.new }
+    {
+        self.put_aside(65535, work);
+    }
+
+    // No variable is left aside.
+    pub fn leave_none_aside(self, work: &mut [u16])
+        requires { 8192 ≤ length work.old }
+        ensures { Aside self.variables self.clauses work.old work.new }
+    {
+        self.put_aside(0, work);
+    }
+
+    // A variable is not left aside. Whether it was.
+    fn bring_back(self, variable: u16, work: &mut [u16]) -> bool
+        requires { (1 ≤ variable) × (variable ≤ self.variables) × (8192 ≤ length work.old) }
+        ensures { Aside self.variables self.clauses work.old work.new }
+    {
+        let at = self.aside_word(variable);
+        let bit = aside_bit(variable);
+        let was = (work[at] & bit) != 0;
+        work[at] &= !bit;
+        was
+    }
+
+    // The variables of a body are not left aside. Whether one of them was.
+    pub fn bring_back_all(self, body: &[u8], work: &mut [u16]) -> bool
+        requires { (within 1 self.variables (words body.now) ≡ true) × (8192 ≤ length work.old) }
+        ensures { Aside self.variables self.clauses work.old work.new }
+    {
+        let mut found = false;
+        for variable in field::words_of(body) {
+            found |= self.bring_back(variable, work);
+        }
+        found
+    }
 }

@@ -1,112 +1,116 @@
--- Two walks over an accepted book: one in which each clause adds its mark, and one for the lowest broken goal.
---   here                     the clause at hand, as its parts spell it
---   Ready, turn_ready        the clause at hand is as the functions on clauses ask
---   here_mark, here_broken   what it adds, and whether it is broken
---   Sweeping, sweeping_next, sweeping_end      the invariant of `sweep`, its next turn and its end
---   Seeking, seeking_none, seeking_found, seeking_next      the invariant of `lowest_broken`, its ways out and its next turn
+-- Walks over a book: one in which each clause adds its mark, and one for the lowest broken goal.
+--   good_fits, fits_at       a clause of a book, at any place, is as the functions on clauses ask
+--   Sweeping, sweeping_start, sweeping_next, sweeping_end      the invariant of `sweep`, its start, its next turn and its end
+--   unbroken_all, broken_first      the lowest broken goal, by the place that `position` gives
 --   heads                    the heads of an accepted book are its variables
 --   partly_swept             a sweep adds marks of forced variables only
 --   settling_end             a sweep that adds no mark leaves the forced variables
 -- Assumes nothing.
-use Prim.Native.Nat.{ℕ, ◌+◌, ◌-◌, ◌≤◌, ◌<◌}
-use mathlib.Core.Path.{◌≡◌, sym, ap, ◌∙◌, subst}
+use Prim.Native.Nat.{ℕ, zero, suc, ◌+◌, ◌≤◌, ◌<◌}
+use mathlib.Core.Path.{◌≡◌, refl, sym, ap, ◌∙◌, subst}
 use mathlib.Core.Logic.{◌⊎◌, inl, inr}
-use mathlib.Core.Bool.{Bool, true, false, cond}
+use mathlib.Core.Bool.{Bool, true, false, cond, not}
 use mathlib.Core.List.Memᴰ
 use mathlib.Core.List.{List, [], ◌∷◌, Memᴰ}
 use native.Mathlib.Omega.{arith}
-use lib.ListN.{length, take, drop}
-use Rattle.field.specs.Words.{words, within}
+use lib.ListN.{length, get_or}
+use lib.Dec.{ltb}
+use borrow.Author.Tests.{lt-ltb, le-ltb, ltb-true, ltb-false}
+use Rattle.std.specs.List.{position_or_len}
 use Rattle.field.proofs.Words.{within_more}
-use Rattle.meaning.specs.Book.{Clause, Book, clause_from}
+use Rattle.meaning.specs.Book.{Clause, Book}
 use Rattle.meaning.specs.Forced.{mark, pass, broken, lowest, forced_in}
 use Rattle.meaning.specs.Marks.{Partly, unmarked}
 use Rattle.meaning.proofs.Marks.{Heads, AllQuiet, length_mark, pass_none, pass_first, pass_or}
-use Rattle.meaning.proofs.Deciding.{broken_is, lowest_empty, lowest_first}
+use Rattle.meaning.proofs.Deciding.{lowest_empty, lowest_first}
 use Rattle.meaning.proofs.Forced.{partly_pass, forced_one}
-use Rattle.book.specs.Bytes.{GoodClauses}
-use Rattle.book.specs.Walk.{book_of, IsBook, front_of}
-use Rattle.book.specs.declared.Front.TheVariants as FrontV
-use Rattle.book.proofs.Walk.{well_formed, Walk, Turn, walk_over}
+use Rattle.book.specs.Bytes.{most_groups, GoodClause, GoodClauses, WellFormed}
+use Rattle.book.proofs.Walk.{later}
+use Rattle.marks.specs.Fits.{Fits, named}
+use Rattle.marks.proofs.Tests.{name_none, name_some}
+use Rattle.std.specs.Prelude.{Option, None, Some}
 
--- the clause at hand
-module _ (v g : ℕ) (r : List ℕ) (cs : List Clause) (from hd start n : ℕ) (t : Turn v g r cs from hd start n) where
-  abbrev pub here : Clause
-  here = clause_from (words (take (start - 2 - from) (drop from r))) hd (words (take (n - start) (drop start r)))
+pub good_fits : (b : Book) (n : ℕ) (c : Clause) → WellFormed b → n ≡ b.variables → GoodClause b.variables b.groups c → Fits n c × (c.head ≤ n)
+good_fits b n c w e good =
+    (record { groups = within_more 0 b.groups most_groups c.groups w.groups good.inside; body = rw e good.variables }, omega (arith, e, good.head))
 
-  pub record Ready (most : ℕ) : Type 0 where
-    pub groups : within 0 most (words (take (start - 2 - from) (drop from r))) ≡ true
-    pub head : hd ≤ v
-    pub body : within 1 v (words (take (n - start) (drop start r))) ≡ true
-
-  pub turn_ready : (most : ℕ) → g ≤ most → Ready most
-  turn_ready most l =
-      record {
-        groups = ap (within 0 most) t.groups ∙ within_more 0 g most t.now.groups l t.good.inside;
-        head = omega (arith, t.head, t.good.head);
-        body = ap (within 1 v) t.numbers ∙ t.good.variables;
-      }
-
-  pub here_mark : (x : ℕ) (f : List ℕ) → mark x here f ≡ mark x t.now f
-  here_mark x f = simp (t.groups, t.head, t.numbers)
-
-  pub here_broken : (x : ℕ) (f : List ℕ) → broken x f here ≡ broken x f t.now
-  here_broken x f = simp (broken_is, t.groups, t.head, t.numbers)
+pub fits_at : (b : Book) (n : ℕ) (c : Clause) → WellFormed b → n ≡ b.variables → (k : ℕ) → k < length b.clauses → c ≡ get_or b.clauses k c → Fits n c × (c.head ≤ n)
+fits_at b n c w e k l is = good_fits b n c w e (subst (GoodClause b.variables b.groups) (sym is) (good_at b.clauses w.good k l))
+  where
+    good_at : (cs : List Clause) → GoodClauses b.variables b.groups cs → (k : ℕ) → k < length cs → GoodClause b.variables b.groups (get_or cs k c)
+    good_at [] good k l = absurd (omega (arith, l))
+    good_at (d ∷ cs) good zero l = good.0
+    good_at (d ∷ cs) good (suc k) l = good_at cs good.1 k (omega (arith, l))
 
 -- ---- each clause adds its mark
-pub record Sweeping (v g x : ℕ) (all : List Clause) (f₀ f r : List ℕ) (n : ℕ) : Type 0 where
-  pub left : List Clause
-  pub walk : Walk v g r left
-  pub so_far : pass x left f ≡ pass x all f₀
+pub record Sweeping (b : Book) (x : ℕ) (f₀ f : List ℕ) (left : List Clause) (n : ℕ) : Type 0 where
+  pub good : GoodClauses b.variables b.groups left
+  pub so_far : pass x left f ≡ pass x b.clauses f₀
   pub long : length f ≡ length f₀
   pub count : n + unmarked f ≡ unmarked f₀
 
-pub sweeping_end : (v g x : ℕ) (all : List Clause) (f₀ f r : List ℕ) (n : ℕ) → Sweeping v g x all f₀ f r n → front_of r ≡ FrontV.End
-    → (f ≡ pass x all f₀) × (n + unmarked f ≡ unmarked f₀)
-sweeping_end v g x all f₀ f r n k e =
-    (sym (pass_none x f) ∙ sym (ap (λ (l : List Clause). pass x l f) (walk_over v g r k.left k.walk e)) ∙ k.so_far, k.count)
+module _ (b : Book) (x : ℕ) (f₀ : List ℕ) where
+  pub sweeping_start : WellFormed b → (left : List Clause) → left ≡ b.clauses → Sweeping b x f₀ f₀ left 0
+  sweeping_start w left e =
+      record {
+        good = subst (GoodClauses b.variables b.groups) (sym e) w.good;
+        so_far = ap (λ l. pass x l f₀) e;
+        long = refl;
+        count = omega arith;
+      }
 
-pub sweeping_next : (v g x : ℕ) (all : List Clause) (f₀ f r : List ℕ) (n from hd body m : ℕ) (k : Sweeping v g x all f₀ f r n) (t : Turn v g r k.left from hd body m)
-    (f' : List ℕ) (i : ℕ) → f' ≡ mark x (here v g r k.left from hd body m t) f → i + unmarked f' ≡ unmarked f
-    → Sweeping v g x all f₀ f' (take (length r - m) (drop m r)) (n + i)
-sweeping_next v g x all f₀ f r n from hd body m k t f' i e c =
-    let is : f' ≡ mark x t.now f = e ∙ here_mark v g r k.left from hd body m t x f in
-    record {
-      left = t.later;
-      walk = t.next;
-      so_far = ap (pass x t.later) is ∙ sym (ap (λ (l : List Clause). pass x l f) t.is ∙ pass_first x t.now t.later f) ∙ k.so_far;
-      long = ap length is ∙ length_mark x t.now f ∙ k.long;
-      count = omega (arith, k.count, c);
-    }
+  module _ (f : List ℕ) (left : List Clause) (n : ℕ) (k : Sweeping b x f₀ f left n) where
+    pub sweeping_end : left ≡ [] → (f ≡ pass x b.clauses f₀) × (n + unmarked f ≡ unmarked f₀)
+    sweeping_end e = (sym (pass_none x f) ∙ sym (ap (λ l. pass x l f) e) ∙ k.so_far, k.count)
+
+    module _ (c : Clause) (rest : List Clause) (is : left ≡ c ∷ rest) where
+      pub sweeping_fits : WellFormed b → length f₀ ≡ b.variables → Fits (length f) c × (c.head ≤ length f)
+      sweeping_fits w e = good_fits b (length f) c w (k.long ∙ e) (later b.variables b.groups left c rest k.good is).0
+
+      pub sweeping_next : (f' : List ℕ) (m : ℕ) → f' ≡ mark x c f → m + unmarked f' ≡ n + unmarked f → Sweeping b x f₀ f' rest m
+      sweeping_next f' m e added =
+          record {
+            good = (later b.variables b.groups left c rest k.good is).1;
+            so_far = ap (pass x rest) e ∙ sym (ap (λ l. pass x l f) is ∙ pass_first x c rest f) ∙ k.so_far;
+            long = ap length e ∙ length_mark x c f ∙ k.long;
+            count = added ∙ k.count;
+          }
 
 -- ---- the lowest broken goal
-pub record Seeking (v g x : ℕ) (all : List Clause) (f r : List ℕ) (k : ℕ) : Type 0 where
-  pub left : List Clause
-  pub walk : Walk v g r left
-  pub so_far : lowest x f k left ≡ lowest x f 1 all
-  pub most : k + length left ≤ 2049
+-- the clauses before the first broken goal, counted
+before : (x : ℕ) (f : List ℕ) (k : ℕ) (cs : List Clause)
+    → lowest x f k cs ≡ cond (ltb (position_or_len (broken x f) cs) (length cs)) (position_or_len (broken x f) cs + k) 0
+before x f k [] = lowest_empty x f k
+before x f k (c ∷ cs) = lowest_first x f k c cs ∙ go (broken x f c) (ltb n (length cs)) refl refl (before x f (k + 1) cs)
+  where
+    n : ℕ
+    n = position_or_len (broken x f) cs
 
-pub seeking_none : (v g x : ℕ) (all : List Clause) (f r : List ℕ) (k : ℕ) → Seeking v g x all f r k → front_of r ≡ FrontV.End → 0 ≡ lowest x f 1 all
-seeking_none v g x all f r k s e = sym (ap (lowest x f k) (walk_over v g r s.left s.walk e) ∙ lowest_empty x f k) ∙ s.so_far
+    go : (b t : Bool) → broken x f c ≡ b → ltb n (length cs) ≡ t → lowest x f (k + 1) cs ≡ cond (ltb n (length cs)) (n + (k + 1)) 0
+        → cond b k (lowest x f (k + 1) cs) ≡ cond (ltb (cond (not b) (1 + n) 0) (length (c ∷ cs))) (cond (not b) (1 + n) 0 + k) 0
+    go true t e q ih = (let z : k ≡ 0 + k = omega arith in z) ∙ ap (λ d. cond d (0 + k) 0) (sym (lt-ltb 0 (length (c ∷ cs)) (omega arith)))
+    go false true e q ih =
+        ih ∙ ap (λ d. cond d (n + (k + 1)) 0) q ∙ (let z : n + (k + 1) ≡ 1 + n + k = omega arith in z)
+        ∙ ap (λ d. cond d (1 + n + k) 0) (sym (lt-ltb (1 + n) (length (c ∷ cs)) (omega (arith, ltb-true n (length cs) q))))
+    go false false e q ih =
+        ih ∙ ap (λ d. cond d (n + (k + 1)) 0) q
+        ∙ ap (λ d. cond d (1 + n + k) 0) (sym (le-ltb (1 + n) (length (c ∷ cs)) (omega (arith, ltb-false n (length cs) q))))
 
-module _ (v g x : ℕ) (all : List Clause) (f r : List ℕ) (k from hd body m : ℕ) (s : Seeking v g x all f r k) (t : Turn v g r s.left from hd body m) (b : Bool)
-    (is : b ≡ broken x f (here v g r s.left from hd body m t)) where
-  split : lowest x f 1 all ≡ cond b k (lowest x f (k + 1) t.later)
-  split =
-      sym s.so_far ∙ ap (lowest x f k) t.is ∙ lowest_first x f k t.now t.later
-      ∙ ap (λ (c : Bool). cond c k (lowest x f (k + 1) t.later)) (sym (is ∙ here_broken v g r s.left from hd body m t x f))
+module _ (x : ℕ) (f : List ℕ) (cs : List Clause) (o : Option ℕ)
+    (is : o ≡ cond (ltb (position_or_len (broken x f) cs) (length cs)) (Some (position_or_len (broken x f) cs)) None) where
+  pub unbroken_all : o ≡ None → None ≡ named (lowest x f 1 cs)
+  unbroken_all e = name_none _ (before x f 1 cs ∙ go (ltb (position_or_len (broken x f) cs) (length cs)) (sym e ∙ is))
+    where
+      go : (b : Bool) → None ≡ cond b (Some (position_or_len (broken x f) cs)) None → cond b (position_or_len (broken x f) cs + 1) 0 ≡ 0
+      go true e = absurd (let z : ◌≡◌ {A = ℕ} 0 1 = cc in omega (arith, z))
+      go false e = refl
 
-  pub seeking_found : b ≡ true → k ≡ lowest x f 1 all
-  seeking_found e = sym (split ∙ ap (λ (c : Bool). cond c k (lowest x f (k + 1) t.later)) e)
-
-  pub seeking_next : b ≡ false → Seeking v g x all f (take (length r - m) (drop m r)) (k + 1)
-  seeking_next e =
-      record {
-        left = t.later;
-        walk = t.next;
-        so_far = sym (split ∙ ap (λ (c : Bool). cond c k (lowest x f (k + 1) t.later)) e);
-        most = omega (arith, s.most, ap length t.is);
-      }
+  pub broken_first : (n : ℕ) → o ≡ Some n → Some (n + 1) ≡ named (lowest x f 1 cs)
+  broken_first n e = name_some _ (n + 1) (omega arith) (before x f 1 cs ∙ go (ltb (position_or_len (broken x f) cs) (length cs)) (sym e ∙ is))
+    where
+      go : (b : Bool) → Some n ≡ cond b (Some (position_or_len (broken x f) cs)) None → cond b (position_or_len (broken x f) cs + 1) 0 ≡ n + 1
+      go true e = let z : n ≡ position_or_len (broken x f) cs = cc in omega (arith, z)
+      go false e = absurd (let z : ◌≡◌ {A = ℕ} 0 1 = cc in omega (arith, z))
 
 -- ---- sweeps to the end
 good_heads : (v g : ℕ) (cs : List Clause) → GoodClauses v g cs → Heads v cs
@@ -117,14 +121,14 @@ good_heads v g (d ∷ cs) G c m = go (Memᴰ.cases_cons m) (good_heads v g cs G.
     go (inl e) ih = subst (λ (z : Clause). z.head ≤ v) (sym e) G.0.head
     go (inr k) ih = ih k
 
-pub heads : (s : List ℕ) → IsBook s → Heads (book_of s).variables (book_of s).clauses
-heads s is = good_heads (book_of s).variables (book_of s).groups (book_of s).clauses (well_formed s is).good
+pub heads : (b : Book) → WellFormed b → Heads b.variables b.clauses
+heads b w = good_heads b.variables b.groups b.clauses w.good
 
-pub settling_end : (s : List ℕ) (x : ℕ) (f f' : List ℕ) → IsBook s → Partly (book_of s) x f → f' ≡ pass x (book_of s).clauses f → 0 + unmarked f' ≡ unmarked f → f' ≡ forced_in (book_of s) x
-settling_end s x f f' is P e n = go (pass_or x (book_of s).clauses f (λ c m. omega (arith, heads s is c m, P.length)))
+pub settling_end : (b : Book) (x : ℕ) (f f' : List ℕ) → WellFormed b → Partly b x f → f' ≡ pass x b.clauses f → 0 + unmarked f' ≡ unmarked f → f' ≡ forced_in b x
+settling_end b x f f' is P e n = go (pass_or x b.clauses f (λ c m. omega (arith, heads b is c m, P.length)))
   where
-    go : ((pass x (book_of s).clauses f ≡ f) × AllQuiet x f (book_of s).clauses) ⊎ (unmarked (pass x (book_of s).clauses f) < unmarked f) → f' ≡ forced_in (book_of s) x
-    go (inl w) = e ∙ w.0 ∙ forced_one (book_of s) x f (heads s is) P w.1
+    go : ((pass x b.clauses f ≡ f) × AllQuiet x f b.clauses) ⊎ (unmarked (pass x b.clauses f) < unmarked f) → f' ≡ forced_in b x
+    go (inl w) = e ∙ w.0 ∙ forced_one b x f (heads b is) P w.1
     go (inr l) = absurd (omega (arith, ap unmarked e))
 
 pub partly_swept : (b : Book) (x : ℕ) (f f' : List ℕ) → Partly b x f → f' ≡ pass x b.clauses f → Partly b x f'

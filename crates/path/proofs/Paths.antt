@@ -1,10 +1,11 @@
 -- Laws of the path, for any number of groups and any reading of what fits.
 --   gathered_holds, gathered_inside               what is gathered contains each reason, and lies in what contains all of them
---   bars_explanation, bars_repair  what a listed record bars
+--   barred, bars_record            what a listed record bars, by its kind
 --   shut_rules                     a record all of whose groups are on its side rules the path out
 --   last_decides                   a record all of whose groups but one are on its side decides the last one
 --   decides_more, decides_same     decided groups: one more, and with other reasons
 --   free_below, free_taken, free_left, less_free      a free group: one of the groups, not taken, not left; without it no other one is free
+--   free_fits                      a word has room for the sides with a free group
 --   parts_take, parts_swap         groups taken, left and free: one is taken; what is taken and what is left change places
 --   reasons_take, reasons_leave, reasons_same     the reasons, likewise
 -- Assumes nothing.
@@ -16,17 +17,20 @@ use mathlib.Core.Bool.{Bool, true, false, cond}
 use native.Mathlib.Omega.{arith}
 use native.Mathlib.Decide.{ℕ_discrete}
 use lib.Dec.{eqb}
+use lib.Pow.{pow_mono}
 use lib.Bits.{bit_and, bit_or}
 use lib.ListN.{length, get_or, set}
 use lib.Seq.{get_or-set_same, get_or-set_other}
 use borrow.Author.Tests.{eqb-true, eqb-false}
 use Rattle.meaning.specs.Choice.{digit, Inside}
 use Rattle.meaning.proofs.Choices.{digit_lt, digit_or, digit_none}
-use Rattle.rounds.specs.Records.{Record, allows}
-use Rattle.rounds.proofs.Digits.{digit_in, digit_both, digit_either, add_same, add_other, add_lt, less_same, less_other, inside_refl, inside_trans, less_inside}
+use Rattle.rounds.specs.Records.{Record, explains, repairs, allows}
+use Rattle.rounds.proofs.Digits.{digit_in, digit_both, digit_either, add_same, add_other, add_lt, pow_le, less_same, less_other, inside_refl, inside_trans, less_inside}
 use Rattle.rounds.proofs.Seeds.{allowed_at, explains_allows, repairs_allows}
-use Rattle.records.specs.Words.{kind_at, set_at, record_from, records_of}
-use Rattle.records.proofs.Words.{is_explanation, is_repair, record_in}
+use Rattle.records.specs.Words.{kind_at, set_at, record_from, records_of, kind_is}
+use Rattle.records.specs.declared.Kind.{Kind}
+use Rattle.records.specs.declared.Kind.TheVariants.{Explanation, Repair}
+use Rattle.records.proofs.Words.{record_in}
 use Rattle.path.specs.Paths.{Fits, Bars, Parts, Decides, Reasons, Rules, gathered, Last}
 
 -- ---- what is gathered
@@ -35,7 +39,8 @@ unfolding gathered
 gathered_holds why x zero g h d = absurd (omega arith)
 gathered_holds why x (suc k) g h d = go (eqb (digit x k) 1) refl (ℕ_discrete g k) (λ l. gathered_holds why x k g l d)
   where
-    go : (b : Bool) → eqb (digit x k) 1 ≡ b → Dec (g ≡ k) → (g < k → Inside (get_or why g 0) (gathered why x k)) → Inside (get_or why g 0) (cond b (bit_or (gathered why x k) (get_or why k 0)) (gathered why x k))
+    go : (b : Bool) → eqb (digit x k) 1 ≡ b → Dec (g ≡ k) → (g < k → Inside (get_or why g 0) (gathered why x k))
+        → Inside (get_or why g 0) (cond b (bit_or (gathered why x k) (get_or why k 0)) (gathered why x k))
     go true e (yes q) ih = λ j. rw q (omega (arith, digit_either (gathered why x k) (get_or why k 0) j))
     go true e (no q) ih = λ j. omega (arith, digit_either (gathered why x k) (get_or why k 0) j, ih (omega arith) j)
     go false e (yes q) ih = absurd (eqb-false (digit x k) 1 e (ap (digit x) (sym q) ∙ d))
@@ -51,19 +56,22 @@ gathered_inside why x h (suc k) f = go (eqb (digit x k) 1) refl (gathered_inside
     go false e ih = ih
 
 -- ---- records
+abbrev pub barred : Kind → ℕ
+barred Explanation = 1
+barred Repair = 0
+
 module _ (n : ℕ) (ws : List ℕ) (c i : ℕ) (h : i < c) where
-  pub bars_explanation : kind_at ws i ≡ 1 → Bars (Fits n (records_of ws c)) (set_at ws i) 1
-  bars_explanation k z f a =
-      (explains_allows (set_at ws i) z).0 (ap (λ (r : Record). allows r z) (sym (is_explanation (kind_at ws i) (set_at ws i) k)) ∙ allowed_at (records_of ws c) z (record_from (kind_at ws i) (set_at ws i)) f.1 (record_in ws c i h))
-      (λ g. inside g (digit_or (set_at ws i) g))
+  listed : (r : Record) → r ≡ record_from (kind_at ws i) (set_at ws i) → (z : ℕ) → Fits n (records_of ws c) z → allows r z ≡ true
+  listed r e z f = ap (λ (q : Record). allows q z) e ∙ allowed_at (records_of ws c) z (record_from (kind_at ws i) (set_at ws i)) f.1 (record_in ws c i h)
+
+  pub bars_record : (k : Kind) (s : ℕ) → kind_is k s ≡ record_from (kind_at ws i) (set_at ws i) → Bars (Fits n (records_of ws c)) s (barred k)
+  bars_record Explanation s e z f a = (explains_allows s z).0 (listed (explains s) e z f) (λ g. inside g (digit_or s g))
     where
-      inside : (g : ℕ) → (digit (set_at ws i) g ≡ 0) ⊎ (digit (set_at ws i) g ≡ 1) → digit (set_at ws i) g ≤ digit z g
+      inside : (g : ℕ) → (digit s g ≡ 0) ⊎ (digit s g ≡ 1) → digit s g ≤ digit z g
       inside g (inl d) = omega arith
       inside g (inr d) = omega (arith, a g d)
-
-  pub bars_repair : kind_at ws i ≢ 1 → Bars (Fits n (records_of ws c)) (set_at ws i) 0
-  bars_repair k z f a =
-      let m = (repairs_allows (set_at ws i) z).0 (ap (λ (r : Record). allows r z) (sym (is_repair (kind_at ws i) (set_at ws i) k)) ∙ allowed_at (records_of ws c) z (record_from (kind_at ws i) (set_at ws i)) f.1 (record_in ws c i h)) in
+  bars_record Repair s e z f a =
+      let m = (repairs_allows s z).0 (listed (repairs s) e z f) in
       absurd (omega (arith, a m.0 m.1.0, m.1.1))
 
 module _ (Fit : ℕ → Type 0) (n held side set v : ℕ) (why : List ℕ) (D : Decides Fit held side why v) (B : Bars Fit set v) where
@@ -127,6 +135,16 @@ module _ (n taken left free : ℕ) (P : Parts n taken left free) where
     pub free_left : digit left g ≡ 0
     free_left = omega (arith, P.one g free_below)
 
+    -- a word has room for the sides with it
+    pub free_fits : n ≤ 32 → (g < 32) × (2 ^ g ≤ free) × (taken + 2 ^ g < 2 ^ 32) × (left + 2 ^ g < 2 ^ 32)
+    free_fits h =
+        let m = pow_mono {i = n} {j = 32} h in (
+          omega (arith, free_below),
+          pow_le free g d,
+          omega (arith, m, add_lt n taken g P.taken_in free_below free_taken),
+          omega (arith, m, add_lt n left g P.left_in free_below free_left),
+        )
+
     pub parts_take : Parts n (taken + 2 ^ g) left (free - 2 ^ g)
     parts_take =
         record {
@@ -164,7 +182,8 @@ module _ (n : ℕ) (Fit : ℕ → Type 0) (held taken left free : ℕ) (why : Li
     off : (j : ℕ) (x : ℕ) → digit x g ≡ 0 → digit x j ≡ 1 → get_or (set why g c) j 0 ≡ get_or why j 0
     off j x q e = get_or-set_other why g j c 0 (λ w. omega (arith, q, ap (digit x) (sym w) ∙ e))
 
-    pub reasons_take : (held' : ℕ) → Inside held held' → Inside held' (taken + 2 ^ g) → Inside c held' → ((z : ℕ) → Fit z → Inside c z → digit z g ≡ 1) → Reasons Fit held' (taken + 2 ^ g) left (set why g c)
+    pub reasons_take : (held' : ℕ) → Inside held held' → Inside held' (taken + 2 ^ g) → Inside c held' → ((z : ℕ) → Fit z → Inside c z → digit z g ≡ 1)
+        → Reasons Fit held' (taken + 2 ^ g) left (set why g c)
     reasons_take held' w t i f =
         record {
           trial = t;

@@ -2,14 +2,13 @@
 --   gather_start, gather_step, gather_end         what is gathered, group by group
 --   same_refl, same_trans, same_wider, same_set   the reasons of groups that are not free stay
 --   press_shut, press_last   all groups of a record are on its side; all but one are
---   narrows_none, narrows_explanation, narrows_repair      what a record decides: nothing, or its last group, by its kind
---   explanation_shut, explanation_open, repair_shut, repair_open      the same, as pressing answers it
+--   narrows_explanation, narrows_repair      what a record decides, its last group, by its kind
+--   record_shut, record_last      the same, as pressing answers it
 --   then_same, narrows_then, closing_then      one record after the other
---   closing_same             the reasons of groups that are not free stay, whatever is answered
 -- Assumes nothing.
 use Prim.Native.Nat.{ℕ, ◌+◌, ◌-◌, ◌^◌, ◌≤◌, ◌<◌}
 use mathlib.Core.Path.{◌≡◌, refl, sym, ap, ◌∙◌, subst}
-use mathlib.Core.Logic.{inl, inr}
+use mathlib.Core.Logic.{◌⊎◌, inl, inr}
 use mathlib.Core.List.{List}
 use native.Mathlib.Omega.{arith}
 use native.Mathlib.Decide.{ℕ_discrete}
@@ -17,13 +16,14 @@ use lib.Bits.{bit_and, bit_or, and_le_l}
 use lib.ListN.{length, get_or, set, length-set}
 use lib.Seq.{get_or-set_other}
 use Rattle.meaning.specs.Choice.{digit, Inside}
-use Rattle.meaning.proofs.Choices.{digit_lt, digit_none}
-use Rattle.rounds.proofs.Digits.{digit_both, digit_either, add_other, less_other, less_inside, inside_refl, inside_trans, inside_antisym, inside_add, none_inside, and_inside}
-use Rattle.path.specs.Paths.{Bars, Parts, Decides, Rules, gathered, Same, Last, Pressing, Narrows, Closing}
-use Rattle.path.specs.declared.Pressed.TheVariants as PressedV
-use Rattle.path.specs.declared.Closed.{Closed}
-use Rattle.path.specs.declared.Closed.TheVariants as ClosedV
-use Rattle.path.proofs.Paths.{gathered_holds, gathered_inside, shut_rules, last_decides, parts_swap, parts_take, free_below, free_taken, less_free, reasons_take, reasons_leave}
+use Rattle.meaning.proofs.Choices.{digit_lt, digit_or, digit_none}
+use Rattle.rounds.proofs.Digits.{digit_both, digit_either, add_other, less_same, less_other, less_inside, inside_refl, inside_trans, inside_antisym, inside_add, none_inside, and_inside}
+use Rattle.std.proofs.Common.{Some, Result, Ok, Err}
+use Rattle.records.specs.declared.Kind.{Kind}
+use Rattle.records.specs.declared.Kind.TheVariants.{Explanation, Repair}
+use Rattle.path.specs.Paths.{Bars, Parts, Decides, Reasons, Rules, against, decided, gathered, Same, Last, Pressing, Narrows, Closing}
+use Rattle.path.specs.declared.Sides.{Sides}
+use Rattle.path.proofs.Paths.{barred, gathered_holds, gathered_inside, shut_rules, last_decides, parts_swap, parts_take, free_below, free_taken, less_free, reasons_take, reasons_leave}
 
 -- ---- what is gathered: `all` is what the groups of the set that are not in `rest` rest on
 pub record Gathering (why : List ℕ) (set n rest all : ℕ) : Type 0 where
@@ -67,36 +67,37 @@ pub same_set : (free g c : ℕ) (why : List ℕ) → digit free g ≡ 1 → Same
 same_set free g c why d = record { long = length-set why g c; rest = λ j e. get_or-set_other why g j c 0 (λ q. omega (arith, d, ap (digit free) (sym q) ∙ e)) }
 
 -- ---- what one record decides
-module _ (n set side other free : ℕ) where
+module _ (n set side free : ℕ) where
   pub press_shut : set - bit_and set side ≡ 0 → (bit_and set side ≡ set) × Inside set side
   press_shut e = let q : bit_and set side ≡ set = omega (arith, and_le_l set side) in (q, (and_inside set side).0 q)
 
-  pub press_last : (g : ℕ) → Parts n side other free → set < 2 ^ n → 2 ^ g ≡ set - bit_and set side → digit free g ≡ 1 → Last n set side free g
-  press_last g P h e d =
+  pub press_last : (g : ℕ) → set < 2 ^ n → 2 ^ g ≡ set - bit_and set side → digit free g ≡ 1 → Last n set side free g
+  press_last g h e d =
       record {
         within = h;
         is_free = d;
-        others = λ j q o. omega (arith, digit_lt side j, digit_both set side j, q, ap (λ (x : ℕ). digit x j) whole, add_other (bit_and set side) g j apart o);
+        others = λ j q o. omega (arith, digit_lt side j, digit_both set side j, q, ap (λ (x : ℕ). digit x j) whole, add_other (bit_and set side) g j (apart (digit_or set g)) o);
       }
     where
       whole : set ≡ bit_and set side + 2 ^ g
       whole = omega (arith, e, and_le_l set side)
 
-      apart : digit (bit_and set side) g ≡ 0
-      apart = omega (arith, digit_both set side g, free_taken n side other free P g d)
+      apart : (digit set g ≡ 0) ⊎ (digit set g ≡ 1) → digit (bit_and set side) g ≡ 0
+      apart (inl o) = omega (arith, digit_both set side g)
+      apart (inr i) = ap (λ (x : ℕ). digit x g) (let q : bit_and set side ≡ set - 2 ^ g = omega (arith, whole) in q) ∙ less_same set g i
 
 module _ (n : ℕ) (Fit : ℕ → Type 0) (set taken left free : ℕ) (why : List ℕ) (P : Parts n taken left free) where
-  pub narrows_none : Narrows n Fit taken left free why free taken left why
-  narrows_none = record { parts = P; fewer = omega arith; inside = λ g d. d; reasons = λ held R. R }
-
   module _ (g : ℕ) (h : n ≤ length why) where
-    pub narrows_explanation : Bars Fit set 1 → Last n set taken free g → Narrows n Fit taken left free why (free - 2 ^ g) taken (left + 2 ^ g) (lib.ListN.set why g (gathered why (bit_and set taken) n))
+    pub narrows_explanation : Bars Fit set 1 → Last n set taken free g
+        → Narrows n Fit taken left free why (free - 2 ^ g) taken (left + 2 ^ g) (lib.ListN.set why g (gathered why (bit_and set taken) n))
     narrows_explanation B L =
         record {
           parts = parts_swap n (left + 2 ^ g) taken (free - 2 ^ g) (parts_take n left taken free (parts_swap n taken left free P) g L.is_free);
           fewer = omega arith;
           inside = less_free n taken left free P g L.is_free;
-          reasons = λ held R. let D = last_decides Fit n held taken set 1 why R.takes B g 0 free refl L in reasons_leave n Fit held taken left free why P R g (gathered why (bit_and set taken) n) L.is_free (omega (arith, free_below n taken left free P g L.is_free)) D.0 D.1;
+          reasons = λ held R.
+              let D = last_decides Fit n held taken set 1 why R.takes B g 0 free refl L in
+              reasons_leave n Fit held taken left free why P R g (gathered why (bit_and set taken) n) L.is_free (omega (arith, free_below n taken left free P g L.is_free)) D.0 D.1;
         }
 
     pub narrows_repair : Bars Fit set 0 → Last n set left free g → Narrows n Fit taken left free why (free - 2 ^ g) (taken + 2 ^ g) left (lib.ListN.set why g (gathered why (bit_and set left) n))
@@ -125,40 +126,34 @@ module _ (n : ℕ) (Fit : ℕ → Type 0) (taken left free : ℕ) (why : List �
         reasons = λ held R. M.reasons held (N.reasons held R);
       }
 
-  pub closing_then : (r : Closed) (after : List ℕ) → Closing n Fit t l f mid r after → Closing n Fit taken left free why r after
-  closing_then (ClosedV.Shut c) after p = (then_same after p.0, λ held R. p.1 held (N.reasons held R))
-  closing_then (ClosedV.Open f' t' l') after p = (then_same after p.0, narrows_then f' t' l' after p.1)
-
-pub closing_same : (n : ℕ) (Fit : ℕ → Type 0) (taken left free : ℕ) (why : List ℕ) (r : Closed) (after : List ℕ) → Closing n Fit taken left free why r after → Same free why after
-closing_same n Fit taken left free why (ClosedV.Shut c) after p = p.0
-closing_same n Fit taken left free why (ClosedV.Open f t l) after p = p.0
+  pub closing_then : (r : Result Sides ℕ) (after : List ℕ) → Closing n Fit t l f mid r after → Closing n Fit taken left free why r after
+  closing_then (Err c) after p = (then_same after p.0, λ held R. p.1 held (N.reasons held R))
+  closing_then (Ok s) after p = (then_same after p.0, narrows_then s.free s.taken s.left after p.1)
 
 -- ---- the same, as pressing answers it
-module _ (n : ℕ) (Fit : ℕ → Type 0) (set taken left free : ℕ) (why after : List ℕ) (P : Parts n taken left free) (h : n ≤ length why) where
-  unchanged : after ≡ why → Same free why after
-  unchanged e = subst (Same free why) (sym e) (same_refl free why)
+module _ (n : ℕ) (Fit : ℕ → Type 0) (set : ℕ) (s : Sides) (why after : List ℕ) (P : Parts n s.taken s.left s.free) where
+  moved : (g c : ℕ) → digit s.free g ≡ 1 → after ≡ lib.ListN.set why g c → Same s.free why after
+  moved g c d e = subst (Same s.free why) (sym e) (same_set s.free g c why d)
 
-  moved : (g c : ℕ) → digit free g ≡ 1 → after ≡ lib.ListN.set why g c → Same free why after
-  moved g c d e = subst (Same free why) (sym e) (same_set free g c why d)
+  decides : (k : Kind) (held : ℕ) → Reasons Fit held s.taken s.left why → Decides Fit held (against k s) why (barred k)
+  decides Explanation held R = R.takes
+  decides Repair held R = R.leaves
+
+  narrows : (k : Kind) (g : ℕ) → n ≤ length why → Bars Fit set (barred k) → Last n set (against k s) s.free g → let r = decided k g s in
+      Narrows n Fit s.taken s.left s.free why r.free r.taken r.left (lib.ListN.set why g (gathered why (bit_and set (against k s)) n))
+  narrows Explanation g h B L = narrows_explanation n Fit set s.taken s.left s.free why P g h B L
+  narrows Repair g h B L = narrows_repair n Fit set s.taken s.left s.free why P g h B L
 
   -- a record whose groups cannot all have the value v, decided on a side
-  rules : (side other v c : ℕ) → Bars Fit set v → Pressing n set side other free why (PressedV.Shut c) after → (held : ℕ) → Decides Fit held side why v → Rules Fit held c
-  rules side other v c B p held D = subst (Rules Fit held) (sym p.2) (shut_rules Fit n held side set v why D B p.0 p.1)
+  rules : (side v c : ℕ) → Bars Fit set v → Pressing n set side s.free why (Err c) after → (held : ℕ) → Decides Fit held side why v → Rules Fit held c
+  rules side v c B p held D = subst (Rules Fit held) (sym p.2) (shut_rules Fit n held side set v why D B p.0 p.1)
 
-  module _ (B : Bars Fit set 1) where
-    pub explanation_shut : (c : ℕ) → Pressing n set taken left free why (PressedV.Shut c) after → Closing n Fit taken left free why (ClosedV.Shut c) after
-    explanation_shut c p = (unchanged p.3, λ held R. rules taken left 1 c B p held R.takes)
+  module _ (k : Kind) (side : ℕ) (e : side ≡ against k s) (B : Bars Fit set (barred k)) where
+    pub record_shut : (c : ℕ) → Pressing n set side s.free why (Err c) after → Closing n Fit s.taken s.left s.free why (Err c) after
+    record_shut c p =
+        (subst (Same s.free why) (sym p.3) (same_refl s.free why), λ held R. rules side (barred k) c B p held (subst (λ (x : ℕ). Decides Fit held x why (barred k)) (sym e) (decides k held R)))
 
-    pub explanation_open : (f o : ℕ) → Pressing n set taken left free why (PressedV.Open f o) after → Closing n Fit taken left free why (ClosedV.Open f taken o) after
-    explanation_open f o (inl p) = (unchanged p.2, rw (p.0, p.1, p.2) (narrows_none n Fit set taken left free why P))
-    explanation_open f o (inr p) =
-        (moved p.0 (gathered why (bit_and set taken) n) p.1.is_free p.4, rw (p.2, p.3, p.4) (narrows_explanation n Fit set taken left free why P p.0 h B p.1))
-
-  module _ (B : Bars Fit set 0) where
-    pub repair_shut : (c : ℕ) → Pressing n set left taken free why (PressedV.Shut c) after → Closing n Fit taken left free why (ClosedV.Shut c) after
-    repair_shut c p = (unchanged p.3, λ held R. rules left taken 0 c B p held R.leaves)
-
-    pub repair_open : (f o : ℕ) → Pressing n set left taken free why (PressedV.Open f o) after → Closing n Fit taken left free why (ClosedV.Open f o left) after
-    repair_open f o (inl p) = (unchanged p.2, rw (p.0, p.1, p.2) (narrows_none n Fit set taken left free why P))
-    repair_open f o (inr p) =
-        (moved p.0 (gathered why (bit_and set left) n) p.1.is_free p.4, rw (p.2, p.3, p.4) (narrows_repair n Fit set taken left free why P p.0 h B p.1))
+    pub record_last : (g : ℕ) → n ≤ length why → Pressing n set side s.free why (Ok (Some g)) after → Closing n Fit s.taken s.left s.free why (Ok (decided k g s)) after
+    record_last g h p =
+        let q = subst (λ (x : ℕ). Pressing n set x s.free why (Ok (Some g)) after) e p in
+        (moved g (gathered why (bit_and set (against k s)) n) q.0.is_free q.1, rw q.1 (narrows k g h B q.0))

@@ -1,21 +1,21 @@
 -- The plain form of an accepted book, clause by clause.
 --   clauses_joined      the clauses are one after the other
---   turn_length         how many numbers the clause at hand is, by where its parts lie
---   clauses_most        the clauses of an accepted book are at most 71,680 numbers
+--   part_numbers        how many numbers a clause is, by the bytes of its parts
+--   clauses_most        the clauses of a book are at most 71,680 numbers
 -- Assumes nothing.
-use Prim.Native.Nat.{ℕ, zero, suc, ◌+◌, ◌-◌, ◌*◌, ◌/◌, ◌≤◌}
+use Prim.Native.Nat.{ℕ, zero, suc, ◌+◌, ◌*◌, ◌/◌, ◌≤◌}
 use mathlib.Core.Path.{◌≡◌, refl, ap, ◌∙◌}
 use mathlib.Core.List.{List, [], ◌∷◌}
 use native.Mathlib.Omega.{arith}
-use lib.ListN.{length, take, drop, length-append}
-use Rattle.field.specs.Words.{words}
+use lib.ListN.{length, length-append}
 use Rattle.field.proofs.Words.{length_words}
-use Rattle.field.proofs.Parts.{part_length}
-use Rattle.meaning.specs.Book.{Clause, clause_from}
+use Rattle.meaning.specs.Book.{Clause}
 use Rattle.book.specs.Bytes.{GoodClause, GoodClauses}
-use Rattle.book.specs.Walk.{book_of, IsBook}
-use Rattle.book.proofs.Walk.{well_formed, Turn}
-use Rattle.book.proofs.Walks.{Joins, here}
+use Rattle.book.specs.Clauses.{meant, clause_is}
+use Rattle.book.specs.declared.accepted.Book.{Book as Found}
+use Rattle.book.specs.declared.accepted.Clause.{Clause as Part}
+use Rattle.book.proofs.Walk.{found}
+use Rattle.book.proofs.Walks.{Joins}
 use Rattle.plain.specs.Plain.{head_literal, plain_clause, plain_clauses}
 use Rattle.plain.proofs.Given.{clause_numbers}
 
@@ -23,19 +23,9 @@ pub clauses_joined : Joins plain_clause plain_clauses
 unfolding plain_clauses
 clauses_joined = record { none = refl; more = λ c cs. refl }
 
-pub turn_length : (v g : ℕ) (r : List ℕ) (cs : List Clause) (from hd body n : ℕ) → Turn v g r cs from hd body n
-    → (body - 2 - from) / 2 + (n - body) / 2 + length (head_literal hd) + 1 ≡ length (here plain_clause r from hd body n)
-turn_length v g r cs from hd body n t =
-    let gs = take (body - 2 - from) (drop from r) in
-    let ws = take (n - body) (drop body r) in
-    omega (
-      arith,
-      clause_numbers (clause_from (words gs) hd (words ws)),
-      length_words gs,
-      length_words ws,
-      part_length r from (body - 2 - from) (omega (arith, t.before, t.least, t.fits)),
-      part_length r body (n - body) (omega (arith, t.least, t.fits)),
-    )
+-- a clause, by the bytes of its parts
+pub part_numbers : (c : Part) → length c.groups.now / 2 + length c.body.now / 2 + length (head_literal c.head) + 1 ≡ length (plain_clause (clause_is c))
+part_numbers c = omega (arith, clause_numbers (clause_is c), length_words c.groups.now, length_words c.body.now)
 
 -- at most one number is a head
 head_length : (h : ℕ) → length (head_literal h) ≤ 1
@@ -51,5 +41,5 @@ good_most v g [] k = omega (arith, ap length clauses_joined.none)
 good_most v g (c ∷ cs) k =
     omega (arith, ap length (clauses_joined.more c cs) ∙ length-append (plain_clause c) (plain_clauses cs), clause_most v g c k.0, good_most v g cs k.1)
 
-pub clauses_most : (s : List ℕ) → IsBook s → length (plain_clauses (book_of s).clauses) ≤ 71680
-clauses_most s is = let w = well_formed s is in omega (arith, good_most _ _ (book_of s).clauses w.good, w.clauses)
+pub clauses_most : (b : Found) → length (plain_clauses (meant b).clauses) ≤ 71680
+clauses_most b = let w = found b in omega (arith, good_most _ _ (meant b).clauses w.good, w.clauses)

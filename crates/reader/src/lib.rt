@@ -1,30 +1,26 @@
 // A rule book read to plain form.
 #![tactic(auto)]
 
-ghost use Rattle.std.specs.Prelude.{◌≡◌, ◌+◌, ◌-◌, ◌/◌, ◌≤◌, length};
+ghost use Rattle.std.specs.Prelude.{◌≡◌, ℕ, ℤ, ◌+◌, ◌≤◌, length};
 ghost use Rattle.answer.specs.Space.{written_is, counted, laid, Wrote};
 ghost use Rattle.field.specs.Words.{words};
-ghost use Rattle.meaning.specs.Book.{clause_from};
-ghost use Rattle.signed.specs.Signed.{sign_of};
-ghost use Rattle.book.specs.Walk.{book_of, IsBook};
+ghost use Rattle.book.specs.Clauses.{meant, clause_is};
 ghost use Rattle.plain.specs.Plain.{each, head_literal, plain_clause, plain_clauses, plain_of};
 ghost use Rattle.reader.specs.Reads.{reads};
 
-use answer::Written;
-use book::{Checked, Front};
+use answer::{Cause, Refusal};
+use book::{Book, Clause};
 
-// Writes the numbers of a part from `at` on, as they are or below 0, and gives the place after them. The same below.
-fn put_numbers(part: &[u8], below: bool, out: &mut [i32], at: usize) -> usize
-    requires { at + length (words part.now) ≤ length out.old }
-    ensures { Wrote out.old at (each (sign_of below) (words part.now)) out.new result }
+// Writes the numbers of a part from `at` on, each with its sign, and gives the place after them. The same below.
+fn put_numbers<F: Fn(u16) -> i32>(part: &[u8], sign: F, out: &mut [i32], at: usize) -> usize
+    requires callable { F.IsAlwaysCallable sign }
+    requires in_bounds { at + length (words part.now) ≤ length out.old }
+    ensures { (h : ℕ → ℤ) → ((n : ℕ) (z : ℤ) → F.post sign n z → z ≡ h n) → Wrote out.old at (each h (words part.now)) out.new result }
 {
-    let mut t = part;
     let mut i = at;
-    while t.len() >= 2 {
-        let w = field::word_at(t, 0);
-        signed::put_signed(below, w, out, i);
+    for n in field::words_of(part) {
+        out[i] = sign(n);
         i += 1;
-        t = &t[2..];
     }
     i
 }
@@ -42,103 +38,60 @@ fn put_head(head: u16, out: &mut [i32], at: usize) -> usize
 }
 
 // Writes a clause.
-fn put_clause(groups: &[u8], head: u16, body: &[u8], out: &mut [i32], at: usize) -> usize
-    requires { at + length (plain_clause (clause_from (words groups.now) head (words body.now))) ≤ length out.old }
-    ensures { Wrote out.old at (plain_clause (clause_from (words groups.now) head (words body.now))) out.new result }
+fn put_clause(clause: &Clause, out: &mut [i32], at: usize) -> usize
+    requires { at + length (plain_clause (clause_is clause.now)) ≤ length out.old }
+    ensures { Wrote out.old at (plain_clause (clause_is clause.now)) out.new result }
 {
-    let a = put_numbers(groups, false, out, at);
-    let b = put_numbers(body, true, out, a);
-    let c = put_head(head, out, b);
+    let a = put_numbers(clause.groups, signed::plus, out, at);
+    let b = put_numbers(clause.body, signed::minus, out, a);
+    let c = put_head(clause.head, out, b);
     signed::put_plus(0, out, c);
     c + 1
 }
 
-// Writes the clauses of an accepted book from 2 on.
-fn put_clauses(book: &[u8], out: &mut [i32]) -> usize
-    requires book { IsBook book.now }
-    requires book_in_bounds { 2 + length (plain_clauses (book_of book.now).clauses) ≤ length out.old }
-    ensures { Wrote out.old 2 (plain_clauses (book_of book.now).clauses) out.new result }
+// Writes the clauses of a book from 2 on.
+// text_writer has this loop too: a contract of one for both, with what its closure leaves of the space at each call, is longer than the loop.
+fn put_clauses(book: &Book, out: &mut [i32]) -> usize
+    requires { 2 + length (plain_clauses (meant book.now).clauses) ≤ length out.old }
+    ensures { Wrote out.old 2 (plain_clauses (meant book.now).clauses) out.new result }
 {
-    let mut rest = &book[7..];
-    let mut at: usize = 2;
-    loop {
-        match book::front_of(rest) {
-            Front::End => {
-                return at;
-            }
-            Front::Clause {
-                groups,
-                head,
-                body,
-                size,
-            } => {
-                let last = body - 2;
-                at = put_clause(&rest[groups..last], head, &rest[body..size], out, at);
-                rest = &rest[size..];
-            }
-        }
+    let mut at = 2;
+    for clause in book.walk() {
+        at = put_clause(&clause, out, at);
     }
+    at
 }
 
 // How many numbers a clause is in plain form: its groups, its body, its head, and 0.
-fn clause_length(groups: usize, head: u16, body: usize, size: usize) -> usize
-    requires { (groups + 2 ≤ body) × (body ≤ size) × (size ≤ 65535) }
-    ensures { result ≡ (body - 2 - groups) / 2 + (size - body) / 2 + length (head_literal head) + 1 }
+fn clause_length(clause: &Clause) -> usize
+    ensures { result ≡ length (plain_clause (clause_is clause.now)) }
 {
-    let n = (body - 2 - groups) / 2 + (size - body) / 2;
-    if head == 0 {
+    let n = clause.groups.len() / 2 + clause.body.len() / 2;
+    if clause.head == 0 {
         return n + 1;
     }
     n + 2
 }
 
-// How many numbers an accepted book is in plain form.
-fn plain_length(book: &[u8]) -> usize
-    requires { IsBook book.now }
-    ensures { result ≡ length (plain_of (book_of book.now)) }
+// How many numbers a book is in plain form.
+fn plain_length(book: &Book) -> usize
+    ensures { result ≡ length (plain_of (meant book.now)) }
 {
-    let mut rest = &book[7..];
-    let mut n: usize = 2;
-    loop {
-        match book::front_of(rest) {
-            Front::End => {
-                return n;
-            }
-            Front::Clause {
-                groups,
-                head,
-                body,
-                size,
-            } => {
-                n += clause_length(groups, head, body, size);
-                rest = &rest[size..];
-            }
-        }
-    }
+    2 + book
+        .walk()
+        .map(|clause| clause_length(&clause))
+        .sum::<usize>()
 }
 
 // Reads a book to plain form.
-pub fn read(book: &[u8], out: &mut [i32]) -> Written
-    ensures { (written_is result ≡ counted (reads book.now (length out.old))) × (out.new ≡ laid (reads book.now (length out.old)) out.old) }
+pub fn read(bytes: &[u8], out: &mut [i32]) -> Result<usize, Refusal>
+    ensures { (written_is result ≡ counted (reads bytes.now (length out.old))) × (out.new ≡ laid (reads bytes.now (length out.old)) out.old) }
 {
-    match book::check(book) {
-        Checked::Refused { number, place } => Written::Refused { number, place },
-        Checked::Book {
-            variables,
-            groups,
-            clauses: _,
-        } => {
-            let n = plain_length(book);
-            if out.len() < n {
-                return Written::Refused {
-                    number: 11,
-                    place: 0,
-                };
-            }
-            signed::put_plus(variables, out, 0);
-            signed::put_plus(groups, out, 1);
-            let count = put_clauses(book, out);
-            Written::Count { count }
-        }
+    let book = book::check(bytes)?;
+    if out.len() < plain_length(&book) {
+        return Err(Cause::SpaceTooSmall.at(0));
     }
+    signed::put_plus(book.variables, out, 0);
+    signed::put_plus(book.groups, out, 1);
+    Ok(put_clauses(&book, out))
 }

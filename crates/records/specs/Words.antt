@@ -6,6 +6,7 @@
 --   record_from k s      the record of a kind and a set
 --   records_of ws c      the first c records of a space
 --   kind_of r, set_of r   the kind and the set of a record
+--   kind_is k s, record_is r      the record that code's `Record` is, by its kind and its set
 --   words_of rs          the words of some records
 --   put_record ws i k s  the space with the words of record i replaced
 --   faulty n i w        w cannot be word i of the records of a book with n groups: no kind, or a set beyond the groups
@@ -14,6 +15,9 @@
 use Rattle.std.specs.Prelude.{ℕ, zero, suc, ◌+◌, ◌*◌, ◌/◌, ◌%◌, ◌^◌, List, [], ◌∷◌, Bool, not, ◌&&◌, cond, eqb, ltb, length, get_or, set, drop}
 use Rattle.rounds.specs.Records.{Record, explains, repairs}
 use Rattle.rounds.specs.Rounds.{first_from}
+use Rattle.records.specs.declared.Kind.{Kind}
+use Rattle.records.specs.declared.Kind.TheVariants.{Explanation, Repair}
+use Rattle.records.specs.declared.Record as code
 
 abbrev pub record_words : ℕ
 record_words = 2
@@ -41,6 +45,13 @@ kind_of (repairs r) = 2
 unfoldable pub set_of : Record → ℕ
 set_of (explains e) = e
 set_of (repairs r) = r
+
+abbrev pub kind_is : Kind → ℕ → Record
+kind_is Explanation = explains
+kind_is Repair = repairs
+
+abbrev pub record_is : code.Record → Record
+record_is r = kind_is r.kind r.set
 
 unfoldable pub words_of : List Record → List ℕ
 words_of [] = []

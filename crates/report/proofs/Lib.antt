@@ -2,4 +2,3 @@
 pub mod Cases
 pub mod Digits
 pub mod Lines
-pub mod Putting

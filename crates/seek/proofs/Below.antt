@@ -1,6 +1,6 @@
 -- Laws of the search below the last seed, and of what a search answers.
 --   starts_parts, starts_reasons    the path where nothing is decided
---   seeks_seed                      what the search from there finds is the seed
+--   seeks_seed, seeks_none          what the search from there finds is the seed; it finds nothing where there is none
 --   at_seed, none_seed              the largest choice that fits is the seed; there is none where no choice fits
 --   above_digit, above_low          the groups above g
 --   reason_in, reason_out           what a group rests on along the last seed
@@ -8,10 +8,10 @@
 --   held_fits                       its groups above g, with g, are a choice of the groups
 --   along_parts, along_reasons      the path along the last seed down to a group of it
 --   whole_parts, whole_reasons      the path along all of the last seed
---   clear_start, ruled_start, clear_end      no choice agrees with the last seed, or contains it; where none agrees from the last group on, none fits
+--   ruled_start, clear_end          no choice contains the last seed; where none agrees from the last group on, none fits
 --   clear_other, clear_tried        from g to the next group: g is not in the last seed; no choice that contains the groups above g fits
 --   found_below                     a choice found below is the largest that fits
---   along_more, along_next, along_same, along_after, tries_ruled, tries_sought      the same, as code goes
+--   along_next, along_same, along_after, tries_ruled, tries_sought      the same, as code goes
 -- Assumes nothing.
 use Prim.Native.Nat.{ℕ, suc, ◌+◌, ◌-◌, ◌*◌, ◌/◌, ◌%◌, ◌^◌, ◌≤◌, ◌<◌}
 use mathlib.Core.Path.{◌≡◌, sym, ap, ◌∙◌, subst}
@@ -20,7 +20,7 @@ use mathlib.Core.List.{List}
 use mathlib.Core.Option.{some, none}
 use mathlib.Core.Bool.{Bool, true, false, cond}
 use native.Mathlib.Omega.{arith}
-use native.Mathlib.Nat.{mod-lt, div-one, div-eq_of_lt, add-zero}
+use native.Mathlib.Nat.{mod-lt, div-eq_of_lt, add-zero}
 use native.Mathlib.Decide.{ℕ_discrete}
 use lib.Bits.{bit_and}
 use lib.Pow.{pow_pos, split}
@@ -32,16 +32,16 @@ use Rattle.meaning.specs.Choice.{digit, Inside, complement}
 use Rattle.meaning.proofs.Choices.{digit_lt, digit_or, digit_none, digit_high}
 use Rattle.rounds.specs.Records.{Record, allowed}
 use Rattle.rounds.specs.Rounds.{seed}
-use Rattle.rounds.proofs.Digits.{lt_or_ge, digit_in, digit_complement, digit_low, digit_above, digit_over, over_step, over_lt, over_le, over_less, base_inside, none_inside, inside_le, inside_refl, inside_trans, digit_pow, digit_pow_other, and_inside, mod_more}
+use Rattle.rounds.proofs.Digits.{lt_or_ge, digit_in, digit_complement, digit_low, digit_above, digit_over, over_step, over_lt, over_le, over_less}
+use Rattle.rounds.proofs.Digits.{base_inside, none_inside, inside_le, inside_refl, inside_trans, digit_pow, digit_pow_other, and_inside, mod_more}
 use Rattle.rounds.proofs.Seeds.{seed_is, largest_one}
 use Rattle.path.specs.Paths.{Fits, Parts, Decides, Reasons, Same}
 use Rattle.seek.specs.Paths.{Seeks, sought_is, above, reason_of, Along, Clear, Tries}
-use Rattle.seek.specs.declared.Sought.{Sought}
-use Rattle.seek.specs.declared.Sought.TheVariants as SoughtV
+use Rattle.std.proofs.Common.{Result, Ok, Err, Some, None}
 
 -- ---- what a search answers
 module _ (n : ℕ) (rs : List Record) where
-  pub at_seed : (s : ℕ) → Fits n rs s → ((z : ℕ) → Fits n rs z → z ≤ s) → sought_is (SoughtV.At s) ≡ seed n rs
+  pub at_seed : (s : ℕ) → Fits n rs s → ((z : ℕ) → Fits n rs z → z ≤ s) → sought_is (Some s) ≡ seed n rs
   unfolding sought_is
   at_seed s f m = largest_one (allowed rs) (2 ^ n) (some s) (seed n rs) (f.0, f.1, λ z l h. go z l h (holds_or (allowed rs z))) (seed_is n rs)
     where
@@ -49,17 +49,19 @@ module _ (n : ℕ) (rs : List Record) where
       go z l h (inl a) = absurd (omega (arith, m z (h, a)))
       go z l h (inr a) = a
 
-  pub none_seed : (c : ℕ) → ((z : ℕ) → Fits n rs z → ⊥) → sought_is (SoughtV.Nothing c) ≡ seed n rs
+  pub none_seed : ((z : ℕ) → Fits n rs z → ⊥) → sought_is None ≡ seed n rs
   unfolding sought_is
-  none_seed c f = largest_one (allowed rs) (2 ^ n) none (seed n rs) (λ z h. go z h (holds_or (allowed rs z))) (seed_is n rs)
+  none_seed f = largest_one (allowed rs) (2 ^ n) none (seed n rs) (λ z h. go z h (holds_or (allowed rs z))) (seed_is n rs)
     where
       go : (z : ℕ) → z < 2 ^ n → (allowed rs z ≡ true) ⊎ (allowed rs z ≡ false) → allowed rs z ≡ false
       go z h (inl a) = absurd (f z (h, a))
       go z h (inr a) = a
 
-  pub seeks_seed : (r : Sought) → Seeks (Fits n rs) 0 r → sought_is r ≡ seed n rs
-  seeks_seed (SoughtV.At s) S = at_seed s S.0 (λ z f. S.2 z f (none_inside z))
-  seeks_seed (SoughtV.Nothing c) S = none_seed c (λ z f. S.1 z f (inside_trans c 0 z S.0 (none_inside z)))
+  pub seeks_seed : (s : ℕ) → Seeks (Fits n rs) 0 (Ok s) → sought_is (Some s) ≡ seed n rs
+  seeks_seed s S = at_seed s S.0 (λ z f. S.2 z f (none_inside z))
+
+  pub seeks_none : (c : ℕ) → Seeks (Fits n rs) 0 (Err c) → sought_is None ≡ seed n rs
+  seeks_none c S = none_seed (λ z f. S.1 z f (inside_trans c 0 z S.0 (none_inside z)))
 
 pub starts_parts : (n : ℕ) → Parts n 0 0 (2 ^ n - 1)
 starts_parts n =
@@ -146,7 +148,12 @@ module _ (n last g : ℕ) (h : last < 2 ^ n) (d : digit last g ≡ 1) where
 
   left_digit : (left : ℕ) → left ≡ 2 ^ n - 1 - above last g - (2 ^ g - 1) → (j : ℕ) → j < n → digit left j + digit (above last g) j + digit (2 ^ g - 1) j ≡ 1
   left_digit left e j l =
-      omega (arith, ap (λ (x : ℕ). digit x j) (e ∙ (let q : 2 ^ n - 1 - above last g - (2 ^ g - 1) ≡ complement n (above last g + (2 ^ g - 1)) = omega arith in q)), digit_complement n (above last g + (2 ^ g - 1)) j (omega (arith, held_fits)) l, sum_digit j)
+      omega (
+        arith,
+        ap (λ (x : ℕ). digit x j) (e ∙ (let q : 2 ^ n - 1 - above last g - (2 ^ g - 1) ≡ complement n (above last g + (2 ^ g - 1)) = omega arith in q)),
+        digit_complement n (above last g + (2 ^ g - 1)) j (omega (arith, held_fits)) l,
+        sum_digit j,
+      )
 
   module _ (left : ℕ) (e : left ≡ 2 ^ n - 1 - above last g - (2 ^ g - 1)) where
     pub along_parts : Parts n (above last g) left (2 ^ g - 1)
@@ -202,7 +209,8 @@ module _ (n last g : ℕ) (h : last < 2 ^ n) (d : digit last g ≡ 1) where
 
           go : Dec (j ≡ g) → Inside (get_or (set why g (above last g)) j 0) (above last g) × ((z : ℕ) → Fit z → Inside (get_or (set why g (above last g)) j 0) z → digit z j ≡ 0)
           go (yes w) =
-              subst (λ (y : ℕ). Inside y (above last g) × ((z : ℕ) → Fit z → Inside y z → digit z j ≡ 0)) (sym (ap (λ (k : ℕ). get_or (set why g (above last g)) k 0) w ∙ get_or-set_same why g (above last g) 0 long))
+              subst (λ (y : ℕ). Inside y (above last g) × ((z : ℕ) → Fit z → Inside y z → digit z j ≡ 0))
+              (sym (ap (λ (k : ℕ). get_or (set why g (above last g)) k 0) w ∙ get_or-set_same why g (above last g) 0 long))
               (inside_refl (above last g), λ z f i. not_two z (λ u. C z f (agree last z g (same_top last z g (falls z f) i) (sym (ap (digit z) w) ∙ u ∙ sym d))))
           go (no w) =
               let l : g < j = omega (arith, higher) in
@@ -251,9 +259,6 @@ module _ (n last : ℕ) (h : last < 2 ^ n) where
 
 -- ---- from one group to the next
 module _ (Fit : ℕ → Type 0) (last : ℕ) (falls : (z : ℕ) → Fit z → z < last) where
-  pub clear_start : Clear Fit last 0
-  clear_start z f e = omega (arith, falls z f, e, div-one z, div-one last)
-
   pub ruled_start : (z : ℕ) → Fit z → Inside last z → ⊥
   ruled_start z f i = omega (arith, falls z f, inside_le last z i)
 
@@ -267,7 +272,7 @@ module _ (Fit : ℕ → Type 0) (last : ℕ) (falls : (z : ℕ) → Fit z → z 
   pub clear_tried : (g : ℕ) → ((z : ℕ) → Fit z → Inside (above last g) z → ⊥) → Clear Fit last (suc g)
   clear_tried g N z f e = N z f (holds_above last z g e)
 
-  pub found_below : (g s : ℕ) → Seeks Fit (above last g) (SoughtV.At s) → (z : ℕ) → Fit z → z ≤ s
+  pub found_below : (g s : ℕ) → Seeks Fit (above last g) (Ok s) → (z : ℕ) → Fit z → z ≤ s
   found_below g s S z f = go (lt_or_ge (z / 2 ^ suc g) (last / 2 ^ suc g))
     where
       go : (z / 2 ^ suc g < last / 2 ^ suc g) ⊎ (last / 2 ^ suc g ≤ z / 2 ^ suc g) → z ≤ s
@@ -278,13 +283,6 @@ pub clear_end : (n : ℕ) (rs : List Record) (last : ℕ) → last < 2 ^ n → C
 clear_end n rs last h C z f = C z f (div-eq_of_lt f.0 ∙ sym (div-eq_of_lt h))
 
 -- ---- as code goes
-pub along_more : (last g r : ℕ) (why : List ℕ) → ((j : ℕ) → j < g → get_or why j 0 ≡ reason_of last j) → g < length why → r ≡ reason_of last g → (j : ℕ) → j < g + 1 → get_or (set why g r) j 0 ≡ reason_of last j
-along_more last g r why f h e j l = go (ℕ_discrete j g)
-  where
-    go : Dec (j ≡ g) → get_or (set why g r) j 0 ≡ reason_of last j
-    go (yes q) = ap (λ (k : ℕ). get_or (set why g r) k 0) q ∙ get_or-set_same why g r 0 h ∙ e ∙ ap (reason_of last) (sym q)
-    go (no o) = get_or-set_other why g j r 0 o ∙ f j (omega arith)
-
 pub along_next : (last n g : ℕ) (why : List ℕ) → Along last n g why → Along last n (suc g) why
 along_next last n g why A j h l = A j (omega arith) l
 
@@ -296,9 +294,9 @@ along_after last n g f x why after A e S j h l =
     S.rest j (ap (λ (y : ℕ). digit y j) e ∙ digit_high g (2 ^ g - 1) j (omega (arith, pow_pos g)) (omega arith)) ∙ get_or-set_other why g j x 0 (omega arith) ∙ A j (omega arith) l
 
 module _ (Fit : ℕ → Type 0) (last : ℕ) (falls : (z : ℕ) → Fit z → z < last) (g : ℕ) where
-  pub tries_ruled : (c held : ℕ) → ((z : ℕ) → Fit z → Inside c z → ⊥) → held ≡ above last g → bit_and c held ≡ c → Tries Fit last g (SoughtV.Nothing c)
+  pub tries_ruled : (c held : ℕ) → ((z : ℕ) → Fit z → Inside c z → ⊥) → held ≡ above last g → bit_and c held ≡ c → Tries Fit last g (Err c)
   tries_ruled c held N e q = (N, clear_tried Fit last falls g (λ z f i. N z f (inside_trans c (above last g) z (subst (Inside c) e ((and_inside c held).0 q)) i)))
 
-  pub tries_sought : (held : ℕ) (r : Sought) → held ≡ above last g → Seeks Fit held r → Tries Fit last g r
-  tries_sought held (SoughtV.At s) e S = (S.0, found_below Fit last falls g s (subst (λ (h : ℕ). Seeks Fit h (SoughtV.At s)) e S))
-  tries_sought held (SoughtV.Nothing c) e S = (S.1, clear_tried Fit last falls g (λ z f i. S.1 z f (inside_trans c (above last g) z (subst (Inside c) e S.0) i)))
+  pub tries_sought : (held : ℕ) (r : Result ℕ ℕ) → held ≡ above last g → Seeks Fit held r → Tries Fit last g r
+  tries_sought held (Ok s) e S = (S.0, found_below Fit last falls g s (subst (λ (h : ℕ). Seeks Fit h (Ok s)) e S))
+  tries_sought held (Err c) e S = (S.1, clear_tried Fit last falls g (λ z f i. S.1 z f (inside_trans c (above last g) z (subst (Inside c) e S.0) i)))

@@ -3,7 +3,8 @@
 --   leaf_seeks               where every group is decided, one choice is left
 --   lower                    of two choices that agree above a group, the one without it is less
 --   has_bit, lacks_bit       the test of one group by its bit
---   trial_parts, trial_held, trial_reasons, trial_found, trial_jump, trial_out      a group taken by trial: the path with it; a choice found there; a failure that does not rest on it; one that does (out_parts)
+--   trial_parts, trial_held, trial_reasons      a group taken by trial: the path with it
+--   trial_found, trial_jump, trial_out      a choice found there; a failure that does not rest on it; one that does (out_parts)
 --   step_fits, step_wide, step_in, step_found, step_jump, step_less, step_out, step_same      the same, as code makes it
 -- Assumes nothing.
 use Prim.Native.Nat.{ℕ, suc, ◌+◌, ◌-◌, ◌/◌, ◌^◌, ◌≤◌, ◌<◌}
@@ -21,13 +22,14 @@ use Rattle.answer.proofs.Tests.{clash}
 use Rattle.meaning.specs.Choice.{digit, Inside}
 use Rattle.meaning.proofs.Choices.{digit_lt, digit_or, digit_none, digit_high}
 use Rattle.rounds.specs.Records.{Record, allowed}
-use Rattle.rounds.proofs.Digits.{lt_or_ge, digits_same, digit_both, add_same, add_other, less_same, less_other, pow_le, inside_le, inside_refl, inside_trans, inside_add, add_inside, digit_pow, digit_pow_other}
+use Rattle.rounds.proofs.Digits.{lt_or_ge, digits_same, digit_both, add_same, add_other, less_same, less_other, pow_le}
+use Rattle.rounds.proofs.Digits.{inside_le, inside_refl, inside_trans, inside_add, add_inside, digit_pow, digit_pow_other}
 use Rattle.choice.specs.Groups.{Highest}
 use Rattle.path.specs.Paths.{Fits, Parts, Reasons, Rules, Same}
 use Rattle.path.proofs.Paths.{parts_swap, parts_take, free_below, free_taken, less_free, reasons_same, reasons_take, reasons_leave}
 use Rattle.path.proofs.Pressing.{same_trans, same_wider, same_set}
 use Rattle.seek.specs.Paths.{leaf_of, Seeks}
-use Rattle.seek.specs.declared.Sought.TheVariants as SoughtV
+use Rattle.std.proofs.Common.{Ok, Err}
 
 -- ---- where every group is decided
 module _ (n : ℕ) (rs : List Record) (held taken left free : ℕ) (why : List ℕ) (P : Parts n taken left free) (R : Reasons (Fits n rs) held taken left why) where
@@ -51,7 +53,7 @@ module _ (n : ℕ) (rs : List Record) (held taken left free : ℕ) (why : List �
       only : (z : ℕ) → Fits n rs z → Inside held z → z ≡ taken
       only z f i = digits_same z taken (λ g. alike z f i g (ap (λ (x : ℕ). digit x g) e ∙ digit_none g))
 
-      go : (b : Bool) → allowed rs taken ≡ b → Seeks (Fits n rs) held (cond b (SoughtV.At taken) (SoughtV.Nothing held))
+      go : (b : Bool) → allowed rs taken ≡ b → Seeks (Fits n rs) held (cond b (Ok taken) (Err held))
       go true a = ((P.taken_in, a), R.trial, λ z f i. omega (arith, only z f i))
       go false a = (inside_refl held, λ z f i. clash (allowed rs taken) (ap (allowed rs) (sym (only z f i)) ∙ f.1) a)
 
@@ -103,7 +105,7 @@ module _ (n : ℕ) (rs : List Record) (held taken left free g : ℕ) (why : List
       bit j (yes e) = rw e (omega (arith, digit_pow g, add_same held g held_not))
       bit j (no o) = omega (arith, digit_pow_other g j o)
 
-  pub trial_found : (s : ℕ) → Seeks (Fits n rs) (held + 2 ^ g) (SoughtV.At s) → Seeks (Fits n rs) held (SoughtV.At s)
+  pub trial_found : (s : ℕ) → Seeks (Fits n rs) (held + 2 ^ g) (Ok s) → Seeks (Fits n rs) held (Ok s)
   trial_found s F = (F.0, under, λ z f i. most z f i (digit_or z g))
     where
       under : Inside held s
@@ -112,7 +114,9 @@ module _ (n : ℕ) (rs : List Record) (held taken left free g : ℕ) (why : List
       most : (z : ℕ) → Fits n rs z → Inside held z → (digit z g ≡ 0) ⊎ (digit z g ≡ 1) → z ≤ s
       most z f i (inr d) = F.2 z f (add_inside held z g held_not i d)
       most z f i (inl d) =
-          let l : z < s = lower z s g (λ j h. alike n rs held taken left free why P R z f i j (H.none_above j h) ∙ sym (alike n rs held taken left free why P R s F.0 under j (H.none_above j h))) d (omega (arith, F.1 g, add_same held g held_not, digit_lt s g)) in
+          let l : z < s = lower z s g
+          (λ j h. alike n rs held taken left free why P R z f i j (H.none_above j h) ∙ sym (alike n rs held taken left free why P R s F.0 under j (H.none_above j h)))
+          d (omega (arith, F.1 g, add_same held g held_not, digit_lt s g)) in
           omega arith
 
   module _ (c : ℕ) (C : Rules (Fits n rs) (held + 2 ^ g) c) where
@@ -155,7 +159,8 @@ pub record Step (n : ℕ) (rs : List Record) (held taken left free g b : ℕ) (w
 module _ {n : ℕ} {rs : List Record} {held taken left free g b : ℕ} {why : List ℕ} (S : Step n rs held taken left free g b why) where
   pub step_fits : (held + b < 2 ^ n) × (taken + b < 2 ^ n) × (left + b < 2 ^ n) × (b ≤ free) × (0 < b)
   step_fits = rw S.is_bit (
-    (let q = inside_le (held + 2 ^ g) (taken + 2 ^ g) (trial_held n rs held taken left free g why S.parts S.reasons S.highest) in omega (arith, q, (trial_parts n rs held taken left free g why S.parts S.reasons S.highest).taken_in)),
+    (let q = inside_le (held + 2 ^ g) (taken + 2 ^ g) (trial_held n rs held taken left free g why S.parts S.reasons S.highest) in
+        omega (arith, q, (trial_parts n rs held taken left free g why S.parts S.reasons S.highest).taken_in)),
     (trial_parts n rs held taken left free g why S.parts S.reasons S.highest).taken_in,
     (out_parts n rs held taken left free g why S.parts S.reasons S.highest).left_in,
     pow_le free g S.highest.in_it,
@@ -176,8 +181,8 @@ module _ {n : ℕ} {rs : List Record} {held taken left free g b : ℕ} {why : Li
         trial_reasons n rs held taken left free g why S.parts S.reasons S.highest (omega (arith, free_below n taken left free S.parts g S.highest.in_it)),
       )
 
-  pub step_found : (s : ℕ) → Seeks (Fits n rs) (held + b) (SoughtV.At s) → Seeks (Fits n rs) held (SoughtV.At s)
-  step_found s F = trial_found n rs held taken left free g why S.parts S.reasons S.highest s (subst (λ (x : ℕ). Seeks (Fits n rs) (held + x) (SoughtV.At s)) S.is_bit F)
+  pub step_found : (s : ℕ) → Seeks (Fits n rs) (held + b) (Ok s) → Seeks (Fits n rs) held (Ok s)
+  step_found s F = trial_found n rs held taken left free g why S.parts S.reasons S.highest s (subst (λ (x : ℕ). Seeks (Fits n rs) (held + x) (Ok s)) S.is_bit F)
 
   module _ (c : ℕ) (C : Rules (Fits n rs) (held + b) c) where
     ruled : Rules (Fits n rs) (held + 2 ^ g) c
@@ -189,13 +194,15 @@ module _ {n : ℕ} {rs : List Record} {held taken left free g b : ℕ} {why : Li
     pub step_less : bit_and c b ≢ 0 → b ≤ c
     step_less q = rw S.is_bit (pow_le c g (has_bit c g (subst (λ (x : ℕ). bit_and c x ≢ 0) S.is_bit q)))
 
-    pub step_out : (after : List ℕ) → bit_and c b ≢ 0 → n ≤ length why → Same (free - b) (set why g b) after → Parts n taken (left + b) (free - b) × Reasons (Fits n rs) held taken (left + b) (set after g (c - b))
+    pub step_out : (after : List ℕ) → bit_and c b ≢ 0 → n ≤ length why → Same (free - b) (set why g b) after
+        → Parts n taken (left + b) (free - b) × Reasons (Fits n rs) held taken (left + b) (set after g (c - b))
     step_out after q h T =
         rw S.is_bit (
           out_parts n rs held taken left free g why S.parts S.reasons S.highest,
           trial_out n rs held taken left free g why S.parts S.reasons S.highest c ruled after (has_bit c g (subst (λ (x : ℕ). bit_and c x ≢ 0) S.is_bit q)) (T.long ∙ length-set why g b)
               (omega (arith, free_below n taken left free S.parts g S.highest.in_it))
-              (λ j d. T.rest j (rw S.is_bit (less_free n taken left free S.parts g S.highest.in_it j d)) ∙ get_or-set_other why g j b 0 (λ w. omega (arith, S.highest.in_it, ap (digit free) (sym w) ∙ d))),
+              (λ j d. T.rest j (rw S.is_bit (less_free n taken left free S.parts g S.highest.in_it j d))
+              ∙ get_or-set_other why g j b 0 (λ w. omega (arith, S.highest.in_it, ap (digit free) (sym w) ∙ d))),
         )
 
   -- the reasons that stay, where that of the group g changed first

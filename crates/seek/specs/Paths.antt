@@ -8,26 +8,25 @@
 -- What functions answer:
 --   leaf_of rs held taken   where every group is decided: the choice, if the records leave it
 --   Seeks Fit held r       r is the largest choice that fits and contains held; or groups that rule out all such choices
---   sought_is r             the seed that `Sought` is
+--   sought_is r             the seed that code's answer is
 -- Assumes nothing: these are definitions.
-use Rattle.std.specs.Prelude.{ℕ, suc, ◌*◌, ◌/◌, ◌^◌, ◌≤◌, ◌<◌, ◌≡◌, List, cond, eqb, get_or}
+use Rattle.std.specs.Prelude.{ℕ, suc, ◌*◌, ◌/◌, ◌^◌, ◌≤◌, ◌<◌, ◌≡◌, List, cond, eqb, get_or, Result, Ok, Err, Some, None}
+use Rattle.std.specs.Prelude as std
 use Rattle.std.proofs.Math.Option.{Option, some, none}
 use Rattle.meaning.specs.Choice.{digit, Inside}
 use Rattle.rounds.specs.Records.{Record, allowed}
 use Rattle.path.specs.Paths.{Rules}
-use Rattle.seek.specs.declared.Sought.{Sought}
-use Rattle.seek.specs.declared.Sought.TheVariants as SoughtV
 
-abbrev pub Seeks : (ℕ → Type 0) → ℕ → Sought → Type 0
-Seeks Fit held (SoughtV.At s) = Fit s × Inside held s × ((z : ℕ) → Fit z → Inside held z → z ≤ s)
-Seeks Fit held (SoughtV.Nothing c) = Rules Fit held c
+abbrev pub Seeks : (ℕ → Type 0) → ℕ → Result ℕ ℕ → Type 0
+Seeks Fit held (Ok s) = Fit s × Inside held s × ((z : ℕ) → Fit z → Inside held z → z ≤ s)
+Seeks Fit held (Err c) = Rules Fit held c
 
-unfoldable pub sought_is : Sought → Option ℕ
-sought_is (SoughtV.At s) = some s
-sought_is (SoughtV.Nothing c) = none
+unfoldable pub sought_is : std.Option ℕ → Option ℕ
+sought_is (Some s) = some s
+sought_is None = none
 
-unfoldable pub leaf_of : List Record → ℕ → ℕ → Sought
-leaf_of rs held taken = cond (allowed rs taken) (SoughtV.At taken) (SoughtV.Nothing held)
+unfoldable pub leaf_of : List Record → ℕ → ℕ → Result ℕ ℕ
+leaf_of rs held taken = cond (allowed rs taken) (Ok taken) (Err held)
 
 abbrev pub above : ℕ → ℕ → ℕ
 above x g = x / 2 ^ suc g * 2 ^ suc g
@@ -41,6 +40,6 @@ Along last n g why = (j : ℕ) → g ≤ j → j < n → get_or why j 0 ≡ reas
 abbrev pub Clear : (ℕ → Type 0) → ℕ → ℕ → Type 0
 Clear Fit last g = (z : ℕ) → Fit z → z / 2 ^ g ≡ last / 2 ^ g → ⊥
 
-abbrev pub Tries : (ℕ → Type 0) → ℕ → ℕ → Sought → Type 0
-Tries Fit last g (SoughtV.At s) = Fit s × ((z : ℕ) → Fit z → z ≤ s)
-Tries Fit last g (SoughtV.Nothing c) = ((z : ℕ) → Fit z → Inside c z → ⊥) × Clear Fit last (suc g)
+abbrev pub Tries : (ℕ → Type 0) → ℕ → ℕ → Result ℕ ℕ → Type 0
+Tries Fit last g (Ok s) = Fit s × ((z : ℕ) → Fit z → z ≤ s)
+Tries Fit last g (Err c) = ((z : ℕ) → Fit z → Inside c z → ⊥) × Clear Fit last (suc g)

@@ -10,145 +10,108 @@ ghost use Rattle.rounds.specs.Rounds.{seed};
 ghost use Rattle.choice.specs.Groups.{width};
 ghost use Rattle.records.specs.Words.{room, records_of};
 ghost use Rattle.open_list.specs.Entries.{head};
-ghost use Rattle.path.specs.Paths.{Fits, Parts, Reasons, Same};
+ghost use Rattle.path.specs.Paths.{Fits, Leaves, Parts, Reasons, Same};
 ghost use Rattle.seek.specs.Paths.{leaf_of, Seeks, sought_is, reason_of, Along, Clear, Tries};
 
-use closing::Passed;
-use path::Closed;
+use closing::Open;
+use path::Sides;
+use records::Listed;
 
-// A seed, or the trials that rule out every choice that contains them.
-#[derive(Drop)]
-pub enum Sought {
-    At { choice: u32 },
-    Nothing { groups: u32 },
-}
-
-// Every group is decided: the choice, if all records leave it.
-fn leaf(records: &[u32], count: usize, held: u32, taken: u32) -> Sought
-    requires { count ≤ room records.now }
-    ensures { result ≡ leaf_of (records_of records.now count) held taken }
+// Every group is decided: the choice, if all records leave it; or the trials, which rule it out.
+#[tactic(auto, unfolding(crate::specs::Paths::leaf_of))]
+fn leaf(listed: Listed, held: u32, taken: u32) -> Result<u32, u32>
+    ensures { result ≡ leaf_of (records_of listed.entry.records.now listed.entry.count) held taken }
 {
-    if records::is_allowed(records, count, taken) {
-        return Sought::At { choice: taken };
+    if records::is_allowed(listed.records, listed.count, taken) {
+        return Ok(taken);
     }
-    Sought::Nothing { groups: held }
+    Err(held)
 }
 
-// The largest choice that fits and contains the trials: with the highest free group, else without it. The first n records of the list may be open; deeper searches
-// only change their order.
+// The largest choice that fits and contains the trials: with the highest free group, else without it; or the trials that rule out every choice that contains them.
+// Deeper searches only change the order of the records that may be open.
 fn search(
-    records: &[u32],
-    count: usize,
-    groups: u32,
+    listed: Listed,
     held: u32,
     fresh: u32,
-    free: u32,
-    taken: u32,
-    left: u32,
-    n: usize,
+    before: Open,
     list: &mut [u16],
     why: &mut [u32],
-) -> Sought
-    requires { (count ≤ room records.now) × (groups ≤ width) × (groups ≤ length why.old) × Parts groups taken left free
-        × Reasons (Fits groups (records_of records.now count)) held taken left why.old × (head + n ≤ length list.old) × (length list.old ≤ 8192) }
-    ensures { Seeks (Fits groups (records_of records.now count)) held result × Same free why.old why.new
-        × (length list.new ≡ length list.old) }
+) -> Result<u32, u32>
+    requires { (listed.groups ≤ length why.old) × Parts listed.groups before.sides.taken before.sides.left before.sides.free
+        × Reasons (Leaves listed) held before.sides.taken before.sides.left why.old × (head + before.most ≤ length list.old) × (length list.old ≤ 8192) }
+    ensures { Seeks (Leaves listed.entry) held result × Same before.sides.free why.old why.new × (length list.new ≡ length list.old) }
 {
-    match closing::close(
-        records, count, groups, fresh, free, taken, left, n, list, why,
-    ) {
-        Passed::Shut { groups } => Sought::Nothing { groups },
-        Passed::Open {
-            free,
-            taken,
-            left,
-            most,
-        } => {
-            if free == 0 {
-                return leaf(records, count, held, taken);
-            }
-            let group = choice::highest(free, groups);
-            let b = choice::bit(group);
-            let i = group as usize;
-            why[i] = b;
-            match search(
-                records,
-                count,
-                groups,
-                held + b,
-                b,
-                free - b,
-                taken + b,
-                left,
-                most,
-                list,
-                why,
-            ) {
-                Sought::At { choice } => Sought::At { choice },
-                Sought::Nothing { groups: c } => {
-                    if (c & b) == 0 {
-                        return Sought::Nothing { groups: c };
-                    }
-                    why[i] = c - b;
-                    search(
-                        records,
-                        count,
-                        groups,
-                        held,
-                        b,
-                        free - b,
-                        taken,
-                        left + b,
-                        most,
-                        list,
-                        why,
-                    )
-                }
-            }
-        }
+    let now = closing::close(listed, fresh, before, list, why)?;
+    let Sides { free, taken, left } = now.sides;
+    if free == 0 {
+        return leaf(listed, held, taken);
     }
+    let group = choice::highest(free, listed.groups);
+    let b = choice::bit(group);
+    why[group as usize] = b;
+    let sides = Sides {
+        free: free - b,
+        taken: taken + b,
+        left,
+    };
+    let ruled = match search(listed, held + b, b, Open { sides, ..now }, list, why) {
+        Ok(choice) => return Ok(choice),
+        Err(ruled) => ruled,
+    };
+    if (ruled & b) == 0 {
+        return Err(ruled);
+    }
+    why[group as usize] = ruled - b;
+    let sides = Sides {
+        free: free - b,
+        taken,
+        left: left + b,
+    };
+    search(listed, held, b, Open { sides, ..now }, list, why)
 }
 
 // The list is arranged by a seed, from the highest group down.
-fn arrange_all(records: &[u32], count: usize, groups: u32, seed: u32, list: &mut [u16])
-    requires { (count ≤ room records.now) × (groups ≤ width) × (head ≤ length list.old) × (length list.old ≤ 8192) }
+fn arrange_all(listed: Listed, seed: u32, list: &mut [u16])
+    requires { (head ≤ length list.old) × (length list.old ≤ 8192) }
 {
-    if groups == 0 {
+    if listed.groups == 0 {
         return;
     }
-    open_list::arrange(records, count, seed, groups - 1, list);
+    open_list::arrange(listed.records, listed.count, seed, listed.groups - 1, list);
 }
 
 // The seed, by a search that starts with no group decided. All records may be open; the list is arranged for the search below this seed.
-pub fn seek(records: &[u32], count: usize, groups: u32, list: &mut [u16]) -> Sought
+pub fn seek(records: &[u32], count: usize, groups: u32, list: &mut [u16]) -> Option<u32>
     requires { (count ≤ room records.now) × (groups ≤ width) × (head ≤ length list.old) × (length list.old ≤ 8192) }
     ensures { sought_is result ≡ seed groups (records_of records.now count) }
 {
-    let mut why = [0u32; choice::PLACES];
-    open_list::fill(count, groups, list);
-    let n = open_list::listed(list);
-    match search(
+    let listed = Listed {
         records,
         count,
         groups,
-        0,
-        !0u32,
-        choice::all(groups),
-        0,
-        0,
-        n,
-        list,
-        &mut why,
-    ) {
-        Sought::Nothing { groups } => Sought::Nothing { groups },
-        Sought::At { choice } => {
-            arrange_all(records, count, groups, choice, list);
-            Sought::At { choice }
+    };
+    let mut why = [0u32; choice::PLACES];
+    open_list::fill(count, groups, list);
+    let before = Open {
+        sides: Sides {
+            free: choice::all(groups),
+            taken: 0,
+            left: 0,
+        },
+        most: open_list::listed(list),
+    };
+    match search(listed, 0, !0u32, before, list, &mut why) {
+        Ok(choice) => {
+            arrange_all(listed, choice, list);
+            Some(choice)
         }
+        Err(_) => None,
     }
 }
 
 // What a group rests on along the last seed.
+#[tactic(auto, unfolding(crate::specs::Paths::reason_of))]
 fn reason(last: u32, g: u32) -> u32
     requires { g < width }
     ensures { result ≡ reason_of last g }
@@ -164,76 +127,65 @@ fn lay(last: u32, groups: u32, why: &mut [u32])
     requires { (groups ≤ width) × (groups ≤ length why.old) }
     ensures { Along last groups 0 why.new × (length why.new ≡ length why.old) }
 {
-    let mut g: u32 = 0;
-    while g < groups {
-        let i = g as usize;
-        why[i] = reason(last, g);
-        g += 1;
+    for g in 0..groups {
+        why[g as usize] = reason(last, g);
     }
 }
 
 // The largest choice that agrees with the last seed above a group and lacks the group, unless the groups ruled out rule it out.
 fn try_below(
-    records: &[u32],
-    count: usize,
-    groups: u32,
+    listed: Listed,
     last: u32,
     ruled: u32,
     g: u32,
     list: &mut [u16],
     why: &mut [u32],
-) -> Sought
-    requires { (count ≤ room records.now) × (groups ≤ width) × (groups ≤ length why.old) × (g < groups) × (last < 2 ^ groups) × Along last groups g why.old
-        × ((z : ℕ) → Fits groups (records_of records.now count) z → z < last)
-        × ((z : ℕ) → Fits groups (records_of records.now count) z → Inside ruled z → ⊥)
-        × Clear (Fits groups (records_of records.now count)) last g × (head ≤ length list.old) × (length list.old ≤ 8192) }
-    ensures { Tries (Fits groups (records_of records.now count)) last g result × Along last groups (suc g) why.new
+) -> Result<u32, u32>
+    requires { (listed.groups ≤ length why.old) × (g < listed.groups) × (last < 2 ^ listed.groups) × Along last listed.groups g why.old
+        × ((z : ℕ) → Leaves listed z → z < last) × ((z : ℕ) → Leaves listed z → Inside ruled z → ⊥)
+        × Clear (Leaves listed) last g × (head ≤ length list.old) × (length list.old ≤ 8192) }
+    ensures { Tries (Leaves listed.entry) last g result × Along last listed.entry.groups (suc g) why.new
         × (length why.new ≡ length why.old) × (length list.new ≡ length list.old) }
 {
     if !choice::has(last, g) {
-        return Sought::Nothing { groups: ruled };
+        return Err(ruled);
     }
     let held = choice::above(last, g);
     if (ruled & held) == ruled {
-        return Sought::Nothing { groups: ruled };
+        return Err(ruled);
     }
     let free = choice::bit(g) - 1;
-    let i = g as usize;
-    why[i] = held;
-    let n = open_list::bound(g, list);
-    search(
-        records,
-        count,
-        groups,
-        held,
-        !0u32,
-        free,
-        held,
-        choice::all(groups) - held - free,
-        n,
-        list,
-        why,
-    )
+    why[g as usize] = held;
+    let left = choice::all(listed.groups) - held - free;
+    let before = Open {
+        sides: Sides {
+            free,
+            taken: held,
+            left,
+        },
+        most: open_list::bound(g, list),
+    };
+    search(listed, held, !0u32, before, list, why)
 }
 
 // Groups of the last seed that no choice that fits contains: those that the newest record rests on, which rules the last seed out, or all of them.
-fn newest(records: &[u32], count: usize, groups: u32, last: u32, why: &mut [u32]) -> u32
-    requires { (count ≤ room records.now) × (groups ≤ width) × (groups ≤ length why.old) × (last < 2 ^ groups) × Along last groups 0 why.old
-        × ((z : ℕ) → Fits groups (records_of records.now count) z → z < last) }
-    ensures { ((z : ℕ) → Fits groups (records_of records.now count) z → Inside result z → ⊥) × Along last groups 0 why.new
-        × (length why.new ≡ length why.old) }
+fn newest(listed: Listed, last: u32, why: &mut [u32]) -> u32
+    requires { (listed.groups ≤ length why.old) × (last < 2 ^ listed.groups) × Along last listed.groups 0 why.old
+        × ((z : ℕ) → Leaves listed z → z < last) }
+    ensures { ((z : ℕ) → Leaves listed.entry z → Inside result z → ⊥) × Along last listed.entry.groups 0 why.new × (length why.new ≡ length why.old) }
 {
-    if count == 0 {
+    if listed.count == 0 {
         return last;
     }
-    let left = choice::all(groups) - last;
-    match path::advance(records, count, count - 1, groups, 0, last, left, why) {
-        Closed::Shut { groups } => groups,
-        Closed::Open {
-            free: _,
-            taken: _,
-            left: _,
-        } => last,
+    let left = choice::all(listed.groups) - last;
+    let sides = Sides {
+        free: 0,
+        taken: last,
+        left,
+    };
+    match path::advance(listed, listed.count - 1, sides, why) {
+        Ok(_) => last,
+        Err(ruled) => ruled,
     }
 }
 
@@ -249,27 +201,34 @@ fn join(count: usize, groups: u32, list: &mut [u16])
 }
 
 // The seed below the last one, which every choice that fits is less than: those that agree with the last seed the longest come first.
-pub fn seek_below(records: &[u32], count: usize, groups: u32, last: u32, list: &mut [u16]) -> Sought
+pub fn seek_below(
+    records: &[u32],
+    count: usize,
+    groups: u32,
+    last: u32,
+    list: &mut [u16],
+) -> Option<u32>
     requires { (count ≤ room records.now) × (groups ≤ width) × (last < 2 ^ groups)
         × ((z : ℕ) → Fits groups (records_of records.now count) z → z < last) × (head ≤ length list.old) × (length list.old ≤ 8192) }
     ensures { sought_is result ≡ seed groups (records_of records.now count) }
 {
+    let listed = Listed {
+        records,
+        count,
+        groups,
+    };
     let mut why = [0u32; choice::PLACES];
     lay(last, groups, &mut why);
-    let mut ruled = newest(records, count, groups, last, &mut why);
+    let mut ruled = newest(listed, last, &mut why);
     join(count, groups, list);
-    let mut g: u32 = 0;
-    while g < groups {
-        match try_below(records, count, groups, last, ruled, g, list, &mut why) {
-            Sought::At { choice } => {
+    for g in 0..groups {
+        match try_below(listed, last, ruled, g, list, &mut why) {
+            Ok(choice) => {
                 open_list::arrange(records, count, choice, g, list);
-                return Sought::At { choice };
+                return Some(choice);
             }
-            Sought::Nothing { groups: c } => {
-                ruled = c;
-            }
+            Err(more) => ruled = more,
         }
-        g += 1;
     }
-    Sought::Nothing { groups: 0 }
+    None
 }

@@ -2,13 +2,25 @@
 #![tactic(auto)]
 
 ghost use Rattle.std.specs.Prelude.{◌≡◌, ◌<◌, ◌%◌, pos, neg_ℤ, nat_abs, length, get_or, set};
-ghost use Rattle.signed.specs.Signed.{signed_of, sign_of};
+ghost use Rattle.signed.specs.Signed.{signed_of};
 
 // `Plus(n)` is n, and `Minus(n)` is -n.
-#[derive(Drop)]
+#[derive(Clone, Copy, Debug, PartialEq, Eq)]
 pub enum Signed {
     Plus(u32),
     Minus(u32),
+}
+
+impl From<i32> for Signed {
+    ghost from_gives = { λ x r. r ≡ signed_of x };
+
+    fn from(x: i32) -> Signed {
+        if x < 0 {
+            Signed::Minus(x.unsigned_abs())
+        } else {
+            Signed::Plus(x.unsigned_abs())
+        }
+    }
 }
 
 // The number that stands at `at`.
@@ -16,13 +28,21 @@ pub fn number_at(s: &[i32], at: usize) -> Signed
     requires { at < length s.now }
     ensures { result ≡ signed_of (get_or s.now at (pos 0)) }
 {
-    let x = s[at];
-    if x < 0 {
-        // -x itself does not fit where x is the least number
-        let y = -1 - x;
-        return Signed::Minus(y as u32 + 1);
-    }
-    Signed::Plus(x as u32)
+    Signed::from(s[at])
+}
+
+// n as it is.
+pub fn plus(n: u16) -> i32
+    ensures { result ≡ pos n }
+{
+    i32::from(n)
+}
+
+// -n.
+pub fn minus(n: u16) -> i32
+    ensures { result ≡ neg_ℤ (pos n) }
+{
+    -i32::from(n)
 }
 
 // Writes n at `at`.
@@ -30,36 +50,12 @@ pub fn put_plus(n: u16, out: &mut [i32], at: usize)
     requires { at < length out.old }
     ensures { out.new ≡ set out.old at (pos n) }
 {
-    out[at] = n as i32;
+    out[at] = plus(n);
 }
 
-// Writes -n at `at`.
-fn put_minus(n: u16, out: &mut [i32], at: usize)
-    requires { at < length out.old }
-    ensures { out.new ≡ set out.old at (neg_ℤ (pos n)) }
+// A number without its sign, as far as 16 bits hold it.
+pub fn amount(x: i32) -> u16
+    ensures { result ≡ nat_abs x % 65536 }
 {
-    out[at] = -(n as i32);
-}
-
-// Writes n or -n at `at`.
-pub fn put_signed(below: bool, n: u16, out: &mut [i32], at: usize)
-    requires { at < length out.old }
-    ensures { out.new ≡ set out.old at (sign_of below n) }
-{
-    if below {
-        put_minus(n, out, at);
-    } else {
-        put_plus(n, out, at);
-    }
-}
-
-// The number at `at` without its sign, as far as 16 bits hold it.
-pub fn amount_at(s: &[i32], at: usize) -> u16
-    requires { at < length s.now }
-    ensures { result ≡ nat_abs (get_or s.now at (pos 0)) % 65536 }
-{
-    match number_at(s, at) {
-        Signed::Plus(n) => (n % 65536) as u16,
-        Signed::Minus(n) => (n % 65536) as u16,
-    }
+    (x.unsigned_abs() % 65536) as u16
 }

@@ -18,6 +18,7 @@ pub fn read_full<R: Read>(input: &mut R, buffer: &mut [u8]) -> io::Result<usize>
         × Consumes (R.remaining input.old) (R.remaining input.new) (take n buffer.new)) }
     ensures loses { Loses (R.remaining input.old) (R.remaining input.new) }
 {
+    // counted, since the count is the answer; `read_exact` of std fails where the input is shorter
     let mut done: usize = 0;
     while done < buffer.len() {
         let n = input.read(&mut buffer[done..])?;
@@ -29,17 +30,17 @@ pub fn read_full<R: Read>(input: &mut R, buffer: &mut [u8]) -> io::Result<usize>
     Ok(done)
 }
 
-// Writes all of the bytes. After an error some of them are written, from the first on.
+// Writes all of the bytes. After an error some of them are written, from the first on, which `write_all` of std does not promise.
 pub fn write_full<W: Write>(out: &mut W, bytes: &[u8]) -> io::Result<()>
     ensures { Prints result (W.contents out.old) (W.contents out.new) bytes.now }
 {
-    let mut done: usize = 0;
-    while done < bytes.len() {
-        let n = out.write(&bytes[done..])?;
+    let mut rest = bytes;
+    while !rest.is_empty() {
+        let n = out.write(rest)?;
         if n == 0 {
             return Err(io::Error::from(ErrorKind::WriteZero));
         }
-        done += n;
+        rest = &rest[n..];
     }
     Ok(())
 }

@@ -1,6 +1,7 @@
 -- Stores in the working space of a book, and what they leave as it was.
---   fresh_none, fresh_next, fresh_all      variables without a level: none of them, one more, all
+--   fresh_next                    one more variable without a level
 --   kept_none, kept_on            no step, and steps after steps
+--   sized                         a book has the numbers that it tells
 --   small, room                   an accepted book is no larger than the space
 --   front_levels, body_within     levels and bodies, by the number of variables that the code has
 --   kept_by                       a step, by the levels that it leaves
@@ -9,7 +10,7 @@
 --   kept_front                    ... are a step where they are levels of which none is too low
 --   kept_laid                     the steps may begin where no variable has a level and the table is laid
 --   kept_after                    steps after stores among the lists
---   laid, laid_on                 the table of a space that is ready, and after stores among the lists
+--   laid                          the table of a space that is ready
 -- Assumes nothing.
 use Prim.Native.Nat.{ℕ, ◌+◌, ◌≤◌, ◌<◌}
 use mathlib.Core.Path.{◌≡◌, refl, sym, ap, ◌∙◌, subst}
@@ -21,18 +22,16 @@ use lib.ListN.{length, get_or, take, drop, set, length-set}
 use lib.Seq.{take-set-lt, drop-set-lt, get_or-set_same, get_or-set_other, length-take-le}
 use Rattle.field.specs.Words.{within}
 use Rattle.book.specs.Walk.{book_of}
-use Rattle.book.proofs.Walk.{well_formed}
+use Rattle.book.specs.declared.accepted.Book.{Book}
+use Rattle.book.proofs.Walk.{well_formed, is_book}
 use Rattle.levels.specs.Levels.{never, Settling}
 use Rattle.levels.proofs.Walks.{high_start, settling_long}
 use Rattle.lists.specs.Space.{Small, Room, Beside, Changes, Aside}
 use Rattle.lists.proofs.Stores.{beside_on, changes_front, front_long}
 use Rattle.table.specs.Table.{Sized, Places, Prepared, Kept, Fresh, Tabled, Laid}
 
--- ---- variables without a level
+-- ---- one more variable without a level
 module _ (v m : ℕ) where
-  pub fresh_none : (w : List ℕ) → Fresh 0 v m w w
-  fresh_none w = record { levels = λ i h. absurd (omega arith); beside = record { places = λ i h. refl; rest = refl; long = refl } }
-
   pub fresh_next : (w₀ w : List ℕ) (n a : ℕ) → Room v m w₀ → n < v → never ≤ a → Fresh n v m w₀ w → Fresh (n + 1) v m w₀ (set w n a)
   fresh_next w₀ w n a R l high F =
       let front : take v (set w n a) ≡ set (take v w) n a = take-set-lt v w n a l in
@@ -51,9 +50,6 @@ module _ (v m : ℕ) where
       go i h long (yes k) = omega (arith, F.levels i k, get_or-set_other (take v w) n i a 0 (λ e. omega arith))
       go i h long (no k) = let e : i ≡ n = omega arith in rw e (omega (arith, get_or-set_same (take v w) n a 0 long))
 
-  pub fresh_all : (w₀ w : List ℕ) (n : ℕ) → v ≤ n → Fresh n v m w₀ w → Fresh v v m w₀ w
-  fresh_all w₀ w n l F = record { levels = λ i h. F.levels i (omega arith); beside = F.beside }
-
 -- ---- steps
 module _ (s : List ℕ) (kept pool : ℕ) where
   pub kept_none : (w : List ℕ) → Prepared s kept pool w → Kept s kept pool w w
@@ -61,6 +57,9 @@ module _ (s : List ℕ) (kept pool : ℕ) where
 
   pub kept_on : (w₀ w w' : List ℕ) → Kept s kept pool w₀ w → Kept s kept pool w w' → Kept s kept pool w₀ w'
   kept_on w₀ w w' K L = record { ready = L.ready; rest = L.rest ∙ K.rest; long = L.long ∙ K.long }
+
+pub sized : (b : Book) → Sized b.bytes.now b.variables b.clauses
+sized b = record { book = is_book b.bytes.now b.accepted; variables = b.variables_are; clauses = b.clauses_are }
 
 module _ (s : List ℕ) (v m : ℕ) (S : Sized s v m) where
   pub small : Small v m
@@ -105,8 +104,10 @@ module _ (s : List ℕ) (v m : ℕ) (S : Sized s v m) where
       kept_by kept pool w (f ++ drop v w) R kept pool C.beside (subst (Settling (book_of s) kept pool) (sym C.levels) L)
 
   -- ---- the beginning
-  pub kept_laid : (kept pool : ℕ) (w₀ w₁ w w' : List ℕ) → Aside v m w₀ w₁ → 8192 ≤ length w₁ → Fresh v v m w₁ w → Tabled s v m w w' → Kept s kept pool w₀ w'
-  kept_laid kept pool w₀ w₁ w w' A l F T =
+  pub kept_laid : (kept pool : ℕ) (w₀ w₁ w w' : List ℕ) (v' m' : ℕ) → v' ≡ v → Aside v' m' w₀ w₁ → 8192 ≤ length w₁ → Fresh v' v' m' w₁ w → Tabled s v m w w'
+      → Kept s kept pool w₀ w'
+  kept_laid kept pool w₀ w₁ w w' v' m' e A l F' T =
+      let F = subst (λ (k : ℕ). Fresh k k m' w₁ w) e F' in
       let n : length (take v w) ≡ v = front_long v m w (room w (omega (arith, F.beside.long))) in
       record {
         ready = record {
@@ -130,7 +131,3 @@ module _ (s : List ℕ) (v m : ℕ) (S : Sized s v m) where
         room = R.room;
         places = subst (λ (k : ℕ). Places s k m w) (sym S.variables) (subst (λ (k : ℕ). Places s (book_of s).variables k w) (sym S.clauses) R.places);
       }
-
-pub laid_on : (s : List ℕ) (v m : ℕ) (w w' : List ℕ) → Laid s v m w → Aside v m w w' → Laid s v m w'
-laid_on s v m w w' L A =
-    record { size = L.size; room = omega (arith, L.room, A.beside.long); places = λ c h. rw (A.beside.places c h) (L.places c h) }

@@ -2,15 +2,15 @@
 // After an error of a function that prints, a part of what it was to print is printed, from the first byte on.
 #![tactic(auto)]
 
-ghost use Rattle.std.specs.Prelude.{◌<◌, ◌↔◌, ◌∷◌, [], IfOk, OnErr, IsTrue};
+ghost use Rattle.std.specs.Prelude.{◌≤◌, ◌<◌, ◌↔◌, ◌∷◌, [], IfOk, IfSome, OnErr, IsTrue};
 ghost use Rattle.decimal.specs.Digits.{number};
 ghost use Rattle.report.specs.Text.{refusal_text};
 ghost use Rattle.streams.specs.Streams.{Prints};
 ghost use Rattle.tell.specs.Told.{front_of, answer_of};
 
-use answer::Written;
+use answer::Refusal;
 use std::io::{self, Write};
-use streams::write_full;
+use streams::{read_full, write_full};
 
 pub fn blank<W: Write>(out: &mut W) -> io::Result<()>
     ensures { Prints result (W.contents out.old) (W.contents out.new) (32 ∷ []) }
@@ -32,7 +32,7 @@ pub fn put<W: Write>(out: &mut W, n: u64) -> io::Result<()>
     front(out, &digits, end)
 }
 
-// One line: refused, the number, the place.
+// One line: refused, the number, the place. It takes any number, as the line does (`refusal_text`), and not only those that a `Cause` has.
 pub fn refused<W: Write>(out: &mut W, number: u8, place: usize) -> io::Result<()>
     ensures { Prints result (W.contents out.old) (W.contents out.new) (refusal_text number place) }
 {
@@ -52,12 +52,12 @@ pub fn front<W: Write>(out: &mut W, space: &[u8], n: usize) -> io::Result<()>
 }
 
 // The bytes that a call wrote into the front of a space, or its refusal.
-pub fn written<W: Write>(out: &mut W, answer: Written, space: &[u8]) -> io::Result<()>
+pub fn told<W: Write>(out: &mut W, answer: Result<usize, Refusal>, space: &[u8]) -> io::Result<()>
     ensures { Prints result (W.contents out.old) (W.contents out.new) (answer_of answer space.now) }
 {
     match answer {
-        Written::Count { count } => front(out, space, count),
-        Written::Refused { number, place } => refused(out, number, place),
+        Ok(count) => front(out, space, count),
+        Err(refusal) => refused(out, refusal.cause.number(), refusal.place),
     }
 }
 
@@ -74,4 +74,21 @@ pub fn too_long(rt: &impl Eprint, n: usize) -> io::Result<bool>
     }
     eprintln!(rt; "text longer than 524288 bytes")?;
     Ok(true)
+}
+
+// Room for one byte more, so that a longer text is seen to be too long.
+pub const TEXT_ROOM: usize = MOST_TEXT + 1;
+
+// Reads a text from standard input into the front of a space, and says how many bytes it has; none where the text is longer than programs take.
+pub fn read_text(
+    rt: &(impl Input + Eprint),
+    text: &mut [u8; TEXT_ROOM],
+) -> io::Result<Option<usize>>
+    ensures { IfOk result (λ n. IfSome n (λ len. len ≤ 524288)) }
+{
+    let n = read_full(&mut rt.reader(), text)?;
+    if too_long(rt, n)? {
+        return Ok(None);
+    }
+    Ok(Some(n))
 }

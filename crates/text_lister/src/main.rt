@@ -1,41 +1,38 @@
 // Reads group CNF text from standard input and prints the listing of its book, as lister does. A text that is refused gives one line: refused, the number, the line.
 #![tactic(auto)]
 
-use answer::Written;
+use answer::Refusal;
 use std::io::{self, Write};
-use streams::read_full;
+use tell::TEXT_ROOM;
 
-fn print_book<W: Write>(out: &mut W, book: &[u8], n: usize) -> io::Result<()> {
-    if book.len() < n {
-        return Ok(());
+fn print_listing<W: Write>(
+    out: &mut W,
+    answer: Result<usize, Refusal>,
+    space: &[u8],
+) -> io::Result<()> {
+    match answer {
+        Ok(count) => match space.get(..count) {
+            Some(book) => listing_run::print_book(out, book),
+            None => Ok(()),
+        },
+        Err(refusal) => tell::refused(out, refusal.cause.number(), refusal.place),
     }
-    listing_run::print_book(out, &book[..n])
 }
 
-fn print_listing<W: Write>(out: &mut W, text: &[u8], book: &mut [u8]) -> io::Result<()> {
-    match text_reader::from_text(text, book) {
-        Written::Count { count } => print_book(out, book, count),
-        Written::Refused { number, place } => tell::refused(out, number, place),
-    }
-}
-
-fn run(rt: &(impl Print + Eprint), text: &[u8]) -> io::Result<()> {
-    if tell::too_long(rt, text.len())? {
-        return Ok(());
-    }
+fn list<W: Write>(out: &mut W, text: &[u8]) -> io::Result<()> {
     let mut book = [0u8; 65535];
-    print_listing(&mut io::writer(rt), text, &mut book)
+    let answer = text_reader::from_text(text, &mut book);
+    print_listing(out, answer, &book)
 }
 
-// One byte more than is taken, so that a longer text is seen to be too long.
-const ROOM: usize = 524289;
-
-fn read_and_run(rt: &(impl Input + Print + Eprint), text: &mut [u8; ROOM]) -> io::Result<()> {
-    let n = read_full(&mut rt.reader(), text)?;
-    run(rt, &text[..n])
+fn run(rt: &(impl Input + Print + Eprint), text: &mut [u8; TEXT_ROOM]) -> io::Result<()> {
+    match tell::read_text(rt, text)? {
+        Some(n) => list(&mut io::writer(rt), &text[..n]),
+        None => Ok(()),
+    }
 }
 
 fn main(rt: HostRuntime) -> io::Result<()> {
-    let mut text = [0u8; ROOM];
-    read_and_run(&rt, &mut text)
+    let mut text = [0u8; TEXT_ROOM];
+    run(&rt, &mut text)
 }

@@ -1,9 +1,9 @@
 -- The lines up to the `p` line, and what the opening that was found says about the whole text.
 --   heading_capped           the numbers of a `p` line as far as two bytes hold them: as good as the true ones
 --   heading_some, heading_none      what a `p` line is found to be, by what is wrong
---   Seeking all t at i       the invariant of `open_text`: t is what is left of all, from place `at` and line i on
+--   Seeking all t i          the invariant of `open_text`: t is what is left of all, from line i on
 --   seeking_start, seeking_skipped, seeking_heading, seeking_clause, seeking_formless, seeking_end      its turns
---   Opened i at t v n g j next      the text t, which begins at place `at` with line i, has this `p` line, line j, and its clauses are in what follows
+--   Opened i at t o          the text t, which begins at place `at` with line i, has this `p` line, and its clauses are in what follows
 --   opened_small             the `p` line's number and what follows it together are no more than the text's bytes and 1
 --   opening_refused, opening_found      what the opening of a whole text says
 -- Assumes nothing.
@@ -18,7 +18,8 @@ use lib.ListN.{length, take, drop, length-drop}
 use lib.Seq.{drop-drop}
 use lib.Dec.{ltb}
 use borrow.Author.Tests.{lt-ltb, le-ltb, ltb-true, ltb-false}
-use Rattle.answer.specs.Answer.{refused, first, unless}
+use Rattle.std.specs.Prelude.{None, Some}
+use Rattle.answer.specs.Answer.{Answer, answered, refused, first, unless}
 use Rattle.answer.proofs.Answers.{unless_none, unless_some}
 use Rattle.answer.proofs.Tests.{first_clear}
 use Rattle.field.proofs.Parts.{part_end}
@@ -28,11 +29,11 @@ use Rattle.text.specs.Taking.{heading_tests, following, opening_at, taking_text}
 use Rattle.text.proofs.Walks.{empty_skipped, opening_skipped, opening_heading, opening_clause, opening_formless, Alike, clauses_alike, opening_alike}
 use Rattle.line.specs.Tokens.{cap, run_of}
 use Rattle.line.specs.Starts.{start_of}
+use Rattle.line.specs.declared.Heading.{Heading}
 use Rattle.line.specs.declared.Start.TheVariants as StartV
-use Rattle.line.proofs.Starts.{start_skipped, start_formless, start_heading, start_clause}
-use Rattle.text_reader.specs.Steps.{past_of, line_size, opening_unless, heading_of, opening_from, opening_of}
+use Rattle.line.proofs.Starts.{start_none, start_skipped, start_heading, start_clause}
+use Rattle.text_reader.specs.Steps.{past_of, line_size, line_in, after_line, heading_of, opening_from, opening_of}
 use Rattle.text_reader.specs.declared.Opening.{Opening}
-use Rattle.text_reader.specs.declared.Opening.TheVariants as OpeningV
 use Rattle.text_reader.proofs.Turns.{Turn, turn}
 
 -- a limit is far below what two bytes hold
@@ -50,32 +51,34 @@ high_capped m x s = go (ltb m x) refl
     go true e = let h = ltb-true m x e in lt-ltb m (cap x) (omega (arith, h, s))
     go false e = let h = ltb-false m x e in le-ltb m (cap x) (omega (arith, h))
 
-module _ (v n g i next : ℕ) where
-  tests_capped : first (heading_tests (cap v) (cap n) (cap g)) ≡ first (heading_tests v n g)
-  tests_capped = simp (low_capped v, high_capped 1024 v (omega arith), high_capped 32 g (omega arith), high_capped 2048 n (omega arith))
+abbrev numbers : ℕ → ℕ → ℕ → Heading
+numbers v n g = record { variables = v; clauses = n; groups = g }
 
-  -- nothing is wrong: so the numbers are small
-  small : first (heading_tests v n g) ≡ 0 → (v ≤ 1024) × (n ≤ 2048) × (g ≤ 32)
-  small e = let c = first_clear (heading_tests v n g) e in (ltb-false 1024 v c.1.0, ltb-false 2048 n c.1.1.1.0, ltb-false 32 g c.1.1.0)
+tests_capped : (v n g : ℕ) → first (heading_tests (cap v) (cap n) (cap g)) ≡ first (heading_tests v n g)
+tests_capped v n g = simp (low_capped v, high_capped 1024 v (omega arith), high_capped 32 g (omega arith), high_capped 2048 n (omega arith))
 
-  pub heading_some : (k : ℕ) → k ≡ first (heading_tests v n g) → (k ≡ 0 → ⊥) → OpeningV.Refused k i ≡ heading_of v n g i next
-  unfolding heading_of opening_unless
-  heading_some zero e h = absurd (h refl)
-  heading_some (suc k) e h = simp (← e)
+-- nothing is wrong: so the numbers are small
+small : (v n g : ℕ) → first (heading_tests v n g) ≡ 0 → (v ≤ 1024) × (n ≤ 2048) × (g ≤ 32)
+small v n g e = let c = first_clear (heading_tests v n g) e in (ltb-false 1024 v c.1.0, ltb-false 2048 n c.1.1.1.0, ltb-false 32 g c.1.1.0)
 
-  pub heading_none : (k : ℕ) → k ≡ first (heading_tests v n g) → k ≡ 0 → OpeningV.Heading v n g i next ≡ heading_of v n g i next
-  unfolding heading_of opening_unless
-  heading_none k e h = simp (sym e ∙ h)
+module _ (h : Heading) (i next : ℕ) where
+  pub heading_some : (k : ℕ) → k ≡ first (heading_tests h.variables h.clauses h.groups) → (k ≡ 0 → ⊥) → refused k i ≡ heading_of h i next
+  unfolding heading_of
+  heading_some k e z = sym (unless_some k _ i _ e z)
 
-pub heading_capped : (v n g i next : ℕ) → heading_of (cap v) (cap n) (cap g) i next ≡ heading_of v n g i next
+  pub heading_none : first (heading_tests h.variables h.clauses h.groups) ≡ 0 → answered (record { heading = h; line = i; next = next }) ≡ heading_of h i next
+  unfolding heading_of
+  heading_none e = sym (unless_none _ i _ e)
+
+heading_capped : (v n g i next : ℕ) → heading_of (numbers (cap v) (cap n) (cap g)) i next ≡ heading_of (numbers v n g) i next
 heading_capped v n g i next = go (first (heading_tests v n g)) refl
   where
-    go : (k : ℕ) → first (heading_tests v n g) ≡ k → heading_of (cap v) (cap n) (cap g) i next ≡ heading_of v n g i next
+    go : (k : ℕ) → first (heading_tests v n g) ≡ k → heading_of (numbers (cap v) (cap n) (cap g)) i next ≡ heading_of (numbers v n g) i next
     go (suc k) e =
-        sym (heading_some (cap v) (cap n) (cap g) i next (suc k) (sym (tests_capped v n g i next ∙ e)) (λ z. omega arith))
-        ∙ heading_some v n g i next (suc k) (sym e) (λ z. omega arith)
+        sym (heading_some (numbers (cap v) (cap n) (cap g)) i next (suc k) (sym (tests_capped v n g ∙ e)) (λ z. omega arith))
+        ∙ heading_some (numbers v n g) i next (suc k) (sym e) (λ z. omega arith)
     go zero e =
-        let s = small v n g i next e in
+        let s = small v n g e in
         let a : cap v ≡ v = omega (arith, s.0) in
         let b : cap n ≡ n = omega (arith, s.1) in
         let c : cap g ≡ g = omega (arith, s.2) in
@@ -87,15 +90,15 @@ module _ (i at : ℕ) (l : List ℕ) (ls : List (List ℕ)) where
   unfolding opening_from by_form
   from_skipped e = rw e
 
-  from_heading : (v n g : ℕ) → line_of l ≡ heading v n g → opening_from i at (l ∷ ls) ≡ heading_of v n g i (at + line_size l ls)
+  from_heading : (v n g : ℕ) → line_of l ≡ heading v n g → opening_from i at (l ∷ ls) ≡ heading_of (numbers v n g) i (at + line_size l ls)
   unfolding opening_from by_form
   from_heading v n g e = rw e
 
-  from_clause : (k : ℕ) (zs : List ℤ) → line_of l ≡ clause k zs → opening_from i at (l ∷ ls) ≡ OpeningV.Refused 22 i
+  from_clause : (k : ℕ) (zs : List ℤ) → line_of l ≡ clause k zs → opening_from i at (l ∷ ls) ≡ refused 22 i
   unfolding opening_from by_form
   from_clause k zs e = rw e
 
-  from_formless : line_of l ≡ formless → opening_from i at (l ∷ ls) ≡ OpeningV.Refused 22 i
+  from_formless : line_of l ≡ formless → opening_from i at (l ∷ ls) ≡ refused 22 i
   unfolding opening_from by_form
   from_formless e = rw e
 
@@ -104,78 +107,82 @@ unfolding opening_from
 from_alike i at ls ls' (inl e) = ap (opening_from i at) e
 from_alike i at ls ls' (inr e) = simp (e.0, e.1) (sym (from_skipped i at [] [] empty_skipped))
 
-from_none : (i at : ℕ) (t : List ℕ) → length t ≤ 0 → opening_from i at (lines t) ≡ OpeningV.Refused 22 0
+from_none : (i at : ℕ) (t : List ℕ) → length t ≤ 0 → opening_from i at (lines t) ≡ refused 22 0
 unfolding opening_from lines pieces
 from_none i at [] h = from_skipped i at [] [] empty_skipped
 from_none i at (a ∷ t) h = absurd (omega arith)
 
-pub record Seeking (all t : List ℕ) (at i : ℕ) : Type 0 where
-  pub answer : opening_of all ≡ opening_from i at (lines t)
-  pub place : at + length t ≡ length all
-  pub number : i ≤ at + 1
+-- t is what is left of all
+pub record Seeking (all t : List ℕ) (i : ℕ) : Type 0 where
+  pub answer : opening_of all ≡ opening_from i (length all - length t) (lines t)
+  pub inside : length t ≤ length all
+  pub number : i + length t ≤ length all + 1
 
-pub seeking_start : (all : List ℕ) → Seeking all all 0 1
+pub seeking_start : (all : List ℕ) → Seeking all all 1
 unfolding opening_of
-seeking_start all = record { answer = refl; place = omega arith; number = omega arith }
+seeking_start all = let z : length all - length all ≡ 0 = omega arith in record { answer = simp z; inside = omega arith; number = omega arith }
 
-pub seeking_end : (all t : List ℕ) (at i : ℕ) → Seeking all t at i → length t ≤ 0 → OpeningV.Refused 22 0 ≡ opening_of all
-seeking_end all t at i p h = sym (p.answer ∙ from_none i at t h)
+pub seeking_end : (all t : List ℕ) (i : ℕ) → Seeking all t i → length t ≡ 0 → refused 22 0 ≡ opening_of all
+seeking_end all t i p h = sym (p.answer ∙ from_none i (length all - length t) t (omega arith))
 
-module _ (all t : List ℕ) (at i : ℕ) (p : Seeking all t at i) (n next : ℕ) (u : Turn t n next) where
-  abbrev l : List ℕ
-  l = take n t
+-- its next line, and what follows that
+module _ (all t : List ℕ) (i : ℕ) (p : Seeking all t i) (some : 0 < length t) where
+  abbrev u : Turn t (run_of ends t) (past_of t (run_of ends t))
+  u = turn t _ _ some refl refl
 
-  on : (o : Opening) → opening_from i at (l ∷ u.later) ≡ o → opening_of all ≡ o
-  on o e = p.answer ∙ ap (opening_from i at) u.split ∙ e
+  on : (a : Answer Opening) → opening_from i (length all - length t) (line_in t ∷ u.later) ≡ a → opening_of all ≡ a
+  on a e = p.answer ∙ ap (opening_from i (length all - length t)) u.split ∙ e
 
-  pub seeking_skipped : start_of l ≡ StartV.Skipped → Seeking all (take (length t - next) (drop next t)) (at + next) (i + 1)
+  past_here : length all - length t + line_size (line_in t) u.later ≡ length all - length (after_line t)
+  past_here = omega (arith, u.size, u.inside, p.inside, length-drop (past_of t (run_of ends t)) t)
+
+  pub seeking_skipped : start_of (line_in t) ≡ Some StartV.Skipped → Seeking all (after_line t) (i + 1)
   seeking_skipped e =
-      simp (part_end t next)
-      (record {
-        answer = on _ (from_skipped i at l u.later (start_skipped l e))
-            ∙ ap (λ (k : ℕ). opening_from (i + 1) (at + k) u.later) u.size
-            ∙ from_alike (i + 1) (at + next) u.later (lines (drop next t)) u.alike;
-        place = omega (arith, p.place, length-drop next t, u.inside);
-        number = omega (arith, p.number, u.some);
-      })
+      record {
+        answer = on _ (from_skipped i (length all - length t) (line_in t) u.later (start_skipped (line_in t) e))
+            ∙ ap (λ (k : ℕ). opening_from (i + 1) k u.later) past_here
+            ∙ from_alike (i + 1) (length all - length (after_line t)) u.later (lines (after_line t)) u.alike;
+        inside = omega (arith, p.inside, length-drop (past_of t (run_of ends t)) t);
+        number = omega (arith, p.number, length-drop (past_of t (run_of ends t)) t, u.some, u.inside);
+      }
 
-  pub seeking_heading : (v k g : ℕ) → start_of l ≡ StartV.Heading v k g → heading_of v k g i (at + next) ≡ opening_of all
-  seeking_heading v k g e =
-      let h = start_heading l v k g e in
-      let a : v ≡ cap h.variables = h.told.0 in
-      let b : k ≡ cap h.clauses = h.told.1 in
-      let c : g ≡ cap h.groups = h.told.2 in
-      let q : heading_of v k g i (at + next) ≡ heading_of (cap h.variables) (cap h.clauses) (cap h.groups) i (at + next) = cc in
-      q
-      ∙ heading_capped h.variables h.clauses h.groups i (at + next)
-      ∙ sym (on _ (from_heading i at l u.later h.variables h.clauses h.groups h.is
-      ∙ ap (λ (m : ℕ). heading_of h.variables h.clauses h.groups i (at + m)) u.size))
+  pub seeking_heading : (h : Heading) → start_of (line_in t) ≡ Some (StartV.Heading h) → heading_of h i (length all - length (after_line t)) ≡ opening_of all
+  seeking_heading h e =
+      let k = start_heading (line_in t) h e in
+      let a : h.variables ≡ cap k.variables = k.told.0 in
+      let b : h.clauses ≡ cap k.clauses = k.told.1 in
+      let c : h.groups ≡ cap k.groups = k.told.2 in
+      let q : numbers h.variables h.clauses h.groups ≡ numbers (cap k.variables) (cap k.clauses) (cap k.groups) = cc in
+      ap (λ (x : Heading). heading_of x i (length all - length (after_line t))) q
+      ∙ heading_capped k.variables k.clauses k.groups i (length all - length (after_line t))
+      ∙ sym (on _ (from_heading i (length all - length t) (line_in t) u.later k.variables k.clauses k.groups k.is
+      ∙ ap (heading_of (numbers k.variables k.clauses k.groups) i) past_here))
 
-  pub seeking_formless : start_of l ≡ StartV.Formless → OpeningV.Refused 22 i ≡ opening_of all
-  seeking_formless e = sym (on _ (from_formless i at l u.later (start_formless l e)))
+  pub seeking_formless : start_of (line_in t) ≡ None → refused 22 i ≡ opening_of all
+  seeking_formless e = sym (on _ (from_formless i (length all - length t) (line_in t) u.later (start_none (line_in t) e)))
 
-  pub seeking_clause : (k j : ℕ) → start_of l ≡ StartV.Clause k j → OpeningV.Refused 22 i ≡ opening_of all
+  pub seeking_clause : (k j : ℕ) → start_of (line_in t) ≡ Some (StartV.Clause k j) → refused 22 i ≡ opening_of all
   seeking_clause k j e =
-      let o = start_clause l k j e in
-      sym (on _ (go (closed (tokens (drop j l))) o.group (literals (tokens (drop j l))) o.is))
+      let o = start_clause (line_in t) k j e in
+      sym (on _ (go (closed (tokens (drop j (line_in t)))) o.group (literals (tokens (drop j (line_in t)))) o.is))
     where
-      go : (b : Bool) (m : ℕ) (zs : List ℤ) → line_of l ≡ cond b (clause m zs) formless → opening_from i at (l ∷ u.later) ≡ OpeningV.Refused 22 i
-      go true m zs f = from_clause i at l u.later m zs f
-      go false m zs f = from_formless i at l u.later f
+      go : (b : Bool) (m : ℕ) (zs : List ℤ) → line_of (line_in t) ≡ cond b (clause m zs) formless → opening_from i (length all - length t) (line_in t ∷ u.later) ≡ refused 22 i
+      go true m zs f = from_clause i (length all - length t) (line_in t) u.later m zs f
+      go false m zs f = from_formless i (length all - length t) (line_in t) u.later f
 
 -- what an opening says: t begins at place `at` with line i
-pub record Opened (i at : ℕ) (t : List ℕ) (v n g j next : ℕ) : Type 0 where
+pub record Opened (i at : ℕ) (t : List ℕ) (o : Opening) : Type 0 where
   pub past : ℕ
-  pub place : next ≡ at + past
+  pub place : o.next ≡ at + past
   pub inside : past ≤ length t
-  pub number : j ≤ i + past
-  pub variables : v ≤ 1024
-  pub groups : g ≤ 32
-  pub takes : opening_at i (lines t) ≡ following v n g j (lines (drop past t))
+  pub number : o.line ≤ i + past
+  pub variables : o.heading.variables ≤ 1024
+  pub groups : o.heading.groups ≤ 32
+  pub takes : opening_at i (lines t) ≡ following o.heading.variables o.heading.clauses o.heading.groups o.line (lines (drop past t))
 
-abbrev Says : ℕ → ℕ → List ℕ → Opening → Type 0
-Says i at t (OpeningV.Refused n p) = opening_at i (lines t) ≡ refused n p
-Says i at t (OpeningV.Heading v n g j next) = Opened i at t v n g j next
+abbrev Says : ℕ → ℕ → List ℕ → Answer Opening → Type 0
+Says i at t (refused n p) = opening_at i (lines t) ≡ refused n p
+Says i at t (answered o) = Opened i at t o
 
 says_none : (i at : ℕ) (t : List ℕ) → length t ≤ 0 → Says i at t (opening_from i at (lines t))
 unfolding opening_at lines pieces
@@ -196,9 +203,9 @@ module _ (i at : ℕ) (t : List ℕ) (n next : ℕ) (u : Turn t n next) where
   opening_turn : opening_at i (lines t) ≡ opening_at i (m ∷ u.later)
   opening_turn = ap (opening_at i) u.split
 
-  later_says : (o : Opening) → opening_at i (lines t) ≡ opening_at (i + 1) (lines (drop next t)) → Says (i + 1) (at + next) (drop next t) o → Says i at t o
-  later_says (OpeningV.Refused k p) e s = e ∙ s
-  later_says (OpeningV.Heading v k g j q) e s =
+  later_says : (a : Answer Opening) → opening_at i (lines t) ≡ opening_at (i + 1) (lines (drop next t)) → Says (i + 1) (at + next) (drop next t) a → Says i at t a
+  later_says (refused k p) e s = e ∙ s
+  later_says (answered o) e s =
       record {
         past = next + s.past;
         place = omega (arith, s.place);
@@ -206,20 +213,20 @@ module _ (i at : ℕ) (t : List ℕ) (n next : ℕ) (u : Turn t n next) where
         number = omega (arith, s.number, u.some);
         variables = s.variables;
         groups = s.groups;
-        takes = e ∙ s.takes ∙ ap (λ (r : List ℕ). following v k g j (lines r)) (drop-drop s.past next t);
+        takes = e ∙ s.takes ∙ ap (λ (r : List ℕ). following o.heading.variables o.heading.clauses o.heading.groups o.line (lines r)) (drop-drop s.past next t);
       }
 
-  heading_says : (v k g : ℕ) → line_of m ≡ heading v k g → Says i at t (heading_of v k g i (at + next))
+  heading_says : (v k g : ℕ) → line_of m ≡ heading v k g → Says i at t (heading_of (numbers v k g) i (at + next))
   heading_says v k g f = go (first (heading_tests v k g)) refl
     where
       e : opening_at i (lines t) ≡ unless (first (heading_tests v k g)) i (following v k g i (lines (drop next t)))
       e = opening_turn ∙ opening_heading i m u.later v k g f ∙ ap (unless (first (heading_tests v k g)) i) (following_alike v k g i u.later (lines (drop next t)) u.alike)
 
-      go : (w : ℕ) → first (heading_tests v k g) ≡ w → Says i at t (heading_of v k g i (at + next))
-      go (suc w) q = subst (Says i at t) (heading_some v k g i (at + next) (suc w) (sym q) (λ z. omega arith)) (e ∙ unless_some (suc w) _ i _ (sym q) (λ z. omega arith))
+      go : (w : ℕ) → first (heading_tests v k g) ≡ w → Says i at t (heading_of (numbers v k g) i (at + next))
+      go (suc w) q = subst (Says i at t) (heading_some (numbers v k g) i (at + next) (suc w) (sym q) (λ z. omega arith)) (e ∙ unless_some (suc w) _ i _ (sym q) (λ z. omega arith))
       go zero q =
-          let s = small v k g i next q in
-          subst (Says i at t) (heading_none v k g i (at + next) 0 (sym q) refl)
+          let s = small v k g q in
+          subst (Says i at t) (heading_none (numbers v k g) i (at + next) q)
           (record {
             past = next;
             place = refl;
@@ -243,7 +250,7 @@ module _ (i at : ℕ) (t : List ℕ) (n next : ℕ) (u : Turn t n next) where
           (later_says (opening_from (i + 1) (at + next) (lines (drop next t)))
           (opening_turn ∙ opening_skipped i m u.later f ∙ opening_alike (i + 1) u.later (lines (drop next t)) u.alike) s)
       go (heading v k g) f =
-          subst (Says i at t) (sym (from_heading i at m u.later v k g f ∙ ap (λ (w : ℕ). heading_of v k g i (at + w)) u.size)) (heading_says v k g f)
+          subst (Says i at t) (sym (from_heading i at m u.later v k g f ∙ ap (λ (w : ℕ). heading_of (numbers v k g) i (at + w)) u.size)) (heading_says v k g f)
       go (clause k zs) f = subst (Says i at t) (sym (from_clause i at m u.later k zs f)) (opening_turn ∙ opening_clause i m u.later k zs f)
       go formless f = subst (Says i at t) (sym (from_formless i at m u.later f)) (opening_turn ∙ opening_formless i m u.later f)
 
@@ -261,14 +268,14 @@ says (suc k) t i at h = go (ltb 0 (length t)) refl (λ next. says k (drop next t
         turn_says i at t n (past_of t n) u (on (past_of t n) (omega (arith, length-drop (past_of t n) t, u.some, u.inside, h)))
 
 module _ (t : List ℕ) where
-  pub opening_refused : (n i : ℕ) → OpeningV.Refused n i ≡ opening_of t → taking_text t ≡ refused n i
+  pub opening_refused : (n i : ℕ) → refused n i ≡ opening_of t → taking_text t ≡ refused n i
   unfolding opening_of taking_text
   opening_refused n i e = subst (Says 1 0 t) (sym e) (says (length t) t 1 0 (omega arith))
 
-  pub opening_found : (v n g i next : ℕ) → OpeningV.Heading v n g i next ≡ opening_of t → Opened 1 0 t v n g i next
+  pub opening_found : (o : Opening) → answered o ≡ opening_of t → Opened 1 0 t o
   unfolding opening_of
-  opening_found v n g i next e = subst (Says 1 0 t) (sym e) (says (length t) t 1 0 (omega arith))
+  opening_found o e = subst (Says 1 0 t) (sym e) (says (length t) t 1 0 (omega arith))
 
 -- the lines after the `p` line, with its number, are as many as bytes at most
-pub opened_small : (t : List ℕ) (v n g i next : ℕ) → Opened 1 0 t v n g i next → i + length (take (length t - next) (drop next t)) ≤ 1 + length t
-opened_small t v n g i next o = omega (arith, ap length (part_end t next), length-drop next t, o.place, o.inside, o.number)
+pub opened_small : (t : List ℕ) (o : Opening) → Opened 1 0 t o → o.line + length (take (length t - o.next) (drop o.next t)) ≤ 1 + length t
+opened_small t o k = omega (arith, ap length (part_end t o.next), length-drop o.next t, k.place, k.inside, k.number)

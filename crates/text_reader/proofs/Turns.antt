@@ -1,7 +1,7 @@
 -- The first line of a text, as code goes past it.
---   past_feed, past_last     the place after a line, with a line feed or without
 --   Turn t n next            the first line of t has n bytes, and next is the place after it: `later` are the lines that follow
 --   turn                     it is so, where t is not empty
+--   after_shorter            so what follows is shorter
 -- Assumes nothing.
 use Prim.Native.Nat.{ℕ, ◌+◌, ◌≤◌, ◌<◌}
 use mathlib.Core.Path.{◌≡◌, refl, sym, ap, ◌∙◌}
@@ -10,7 +10,7 @@ use mathlib.Core.List.{List, [], ◌∷◌}
 use mathlib.Core.Bool.{Bool, true, false}
 use native.Mathlib.Omega.{arith}
 use native.Mathlib.Numerals.{add-one}
-use lib.ListN.{length, take, drop, drop_of_length-le}
+use lib.ListN.{length, take, drop, drop_of_length-le, length-drop}
 use lib.Seq.{length-take-le, take_all}
 use lib.Dec.{ltb}
 use borrow.Author.Tests.{lt-ltb, le-ltb, ltb-true, ltb-false}
@@ -18,14 +18,14 @@ use Rattle.text.specs.Lines.{pieces, ends, lines}
 use Rattle.text.proofs.Walks.{Alike}
 use Rattle.line.specs.Tokens.{run_of}
 use Rattle.line.proofs.Tokens.{run_bound, pieces_last, pieces_run}
-use Rattle.text_reader.specs.Steps.{past_of, line_size}
+use Rattle.text_reader.specs.Steps.{past_of, line_size, after_line}
 
 module _ (t : List ℕ) (n : ℕ) where
-  pub past_feed : n < length t → n + 1 ≡ past_of t n
+  past_feed : n < length t → n + 1 ≡ past_of t n
   unfolding past_of
   past_feed h = rw (lt-ltb n (length t) h)
 
-  pub past_last : length t ≤ n → n ≡ past_of t n
+  past_last : length t ≤ n → n ≡ past_of t n
   unfolding past_of
   past_last h = rw (le-ltb n (length t) h)
 
@@ -83,3 +83,6 @@ turn t n next some is past = go (ltb n (length t)) refl
           inside = omega (arith, k, all);
           short = omega (arith, all);
         }
+
+pub after_shorter : (t : List ℕ) → 0 < length t → length (after_line t) < length t
+after_shorter t some = let u = turn t _ _ some refl refl in omega (arith, u.some, u.inside, length-drop (past_of t (run_of ends t)) t)

@@ -4,51 +4,53 @@
 --   rest_put                 a text whose `p` line was found is what its clauses make of it
 --   FromText, from_text_one  the contract of `from_text`; it determines its answer and the space
 -- Assumes nothing.
-use Prim.Native.Nat.{ℕ, ◌+◌, ◌-◌, ◌≤◌}
+use Prim.Native.Nat.{ℕ, ◌+◌, ◌-◌}
 use mathlib.Core.Path.{◌≡◌, sym, ap, ◌∙◌, subst}
 use mathlib.Core.List.{List, [], ◌∷◌}
 use native.Mathlib.Omega.{arith}
 use lib.ListN.{length, take, drop}
 use Rattle.answer.specs.Answer.{Answer, answered, first}
 use Rattle.answer.specs.Space.{Wrote}
-use Rattle.answer.specs.declared.Written.{Written}
-use Rattle.answer.specs.declared.Written.TheVariants.{Count}
+use Rattle.std.specs.Prelude.{Result, Ok}
+use Rattle.answer.specs.declared.Refusal.{Refusal}
 use Rattle.answer.proofs.Answers.{then_is, unless_is}
 use Rattle.answer.proofs.Spaces.{Told}
 use Rattle.field.specs.Words.{word_bytes}
 use Rattle.field.specs.Field.{field_bytes}
 use Rattle.field.proofs.Parts.{part_end}
 use Rattle.meaning.specs.Book.{Clause, Book}
-use Rattle.book.specs.Bytes.{most_bytes, clauses_bytes, bytes_of}
+use Rattle.book.specs.Bytes.{clauses_bytes, bytes_of}
 use Rattle.book.specs.Reading.{with_clauses}
 use Rattle.book.specs.Walk.{taken}
 use Rattle.book.proofs.Sizes.{header_length}
 use Rattle.text.specs.Lines.{lines}
 use Rattle.text.specs.Taking.{clauses_at, count_tests, following, taking_text}
 use Rattle.text.proofs.Walks.{clauses_any}
-use Rattle.writer.specs.Steps.{taken_of}
-use Rattle.writer.specs.declared.Taken.TheVariants as TakenV
+use Rattle.writer.specs.Steps.{taken_of, room_tests}
+use Rattle.writer.specs.declared.Taken.{Taken}
 use Rattle.writer.proofs.Books.{taken_book, Put, put_one, put_written}
 use Rattle.text_reader.specs.FromText.{from_text}
 use Rattle.text_reader.specs.Steps.{clauses_in, clauses_of, AreClauses}
+use Rattle.text_reader.specs.declared.Opening.{Opening}
 use Rattle.text_reader.proofs.Openings.{Opened}
 
--- v, g and m are what is said of the book
-pub record Took (n i : ℕ) (t : List ℕ) (v₀ g₀ v g m : ℕ) : Type 0 where
+pub record Took (n i : ℕ) (t : List ℕ) (v₀ g₀ : ℕ) (w : Taken) : Type 0 where
   pub book : Book
   pub is : following v₀ n g₀ i (lines t) ≡ answered book
-  pub variables : v ≡ book.variables
-  pub groups : g ≡ book.groups
-  pub length_is : m ≡ length (bytes_of book)
-  pub same : (v ≡ v₀) × (g ≡ g₀)
-  pub are : AreClauses v g t
-  pub clauses : clauses_of v g t ≡ book.clauses
+  pub variables : w.variables ≡ book.variables
+  pub groups : w.groups ≡ book.groups
+  pub length_is : w.length ≡ length (bytes_of book)
+  pub same : (w.variables ≡ v₀) × (w.groups ≡ g₀)
+  pub are : AreClauses w.variables w.groups t
+  pub clauses : clauses_of w.variables w.groups t ≡ book.clauses
 
-pub took : (n i : ℕ) (t : List ℕ) (v₀ g₀ v g m : ℕ) → TakenV.Book v g m ≡ taken_of (following v₀ n g₀ i (lines t)) → Took n i t v₀ g₀ v g m
+pub took : (n i : ℕ) (t : List ℕ) (v₀ g₀ : ℕ) (w : Taken) → answered w ≡ taken_of (following v₀ n g₀ i (lines t)) → Took n i t v₀ g₀ w
 unfolding following AreClauses clauses_of clauses_in
-took n i t v₀ g₀ v g m e =
+took n i t v₀ g₀ w e =
+    let v = w.variables in
+    let g = w.groups in
     let a = following v₀ n g₀ i (lines t) in
-    let k = taken_book a v g m e in
+    let k = taken_book a w e in
     let d = then_is (clauses_at v₀ g₀ 2048 (i + 1) (lines t)) _ (taken a) k.0 in
     let u = unless_is (first (count_tests n d.0)) i (with_clauses v₀ g₀ d.0) (taken a) d.2 in
     let b : record { variables = v₀; groups = g₀; clauses = d.0 } ≡ taken a = inside _ _ u.1 in
@@ -71,29 +73,30 @@ took n i t v₀ g₀ v g m e =
     inside : (b c : Book) → answered b ≡ answered c → b ≡ c
     inside b c e = cc
 
-module _ (n i : ℕ) (t : List ℕ) (v₀ g₀ v g m : ℕ) (k : Took n i t v₀ g₀ v g m) where
-  pub took_room : m ≡ 7 + length (clauses_bytes (clauses_of v g t))
+module _ (n i : ℕ) (t : List ℕ) (v₀ g₀ : ℕ) (w : Taken) (k : Took n i t v₀ g₀ w) where
+  pub took_room : w.length ≡ 7 + length (clauses_bytes (clauses_of w.variables w.groups t))
   took_room = k.length_is ∙ header_length k.book ∙ ap (λ (cs : List Clause). 7 + length (clauses_bytes cs)) (sym k.clauses)
 
-  pub took_written : (out : List ℕ) → m ≤ most_bytes → m ≤ length out → (o1 : List ℕ) (j : ℕ) (o2 : List ℕ) (c : ℕ)
-      → Wrote out 0 (field_bytes 1 (word_bytes (v ∷ g ∷ []))) o1 j → Wrote o1 7 (clauses_bytes (clauses_of v g t)) o2 c → Put (following v₀ n g₀ i (lines t)) out (Count c) o2
-  took_written out short fits o1 j o2 c p q =
-      put_written (following v₀ n g₀ i (lines t)) out k.book k.is (omega (arith, short, k.length_is)) (omega (arith, fits, k.length_is)) o1 j o2 c v g k.variables k.groups p
+  pub took_written : (out : List ℕ) → first (room_tests (length out) w.length) ≡ 0 → (o1 : List ℕ) (j : ℕ) (o2 : List ℕ) (c : ℕ)
+      → Wrote out 0 (field_bytes 1 (word_bytes (w.variables ∷ w.groups ∷ []))) o1 j → Wrote o1 7 (clauses_bytes (clauses_of w.variables w.groups t)) o2 c
+      → Put (following v₀ n g₀ i (lines t)) out (Ok c) o2
+  took_written out fits o1 j o2 c p q =
+      put_written (following v₀ n g₀ i (lines t)) out k.book k.is w.length k.length_is fits o1 j o2 c w.variables w.groups k.variables k.groups p
       (subst (λ (cs : List Clause). Wrote o1 7 (clauses_bytes cs) o2 c) k.clauses q)
 
-pub rest_put : (t out : List ℕ) (v n g i next : ℕ) (r : Written) (new : List ℕ) → Opened 1 0 t v n g i next
-    → Put (following v n g i (lines (take (length t - next) (drop next t)))) out r new → Put (taking_text t) out r new
+pub rest_put : (t out : List ℕ) (o : Opening) (r : Result ℕ Refusal) (new : List ℕ) → Opened 1 0 t o
+    → Put (following o.heading.variables o.heading.clauses o.heading.groups o.line (lines (take (length t - o.next) (drop o.next t)))) out r new → Put (taking_text t) out r new
 unfolding taking_text
-rest_put t out v n g i next r new o p =
-    let e : next ≡ o.past = omega (arith, o.place) in
-    let q : following v n g i (lines (take (length t - next) (drop next t))) ≡ taking_text t =
-    ap (λ (s : List ℕ). following v n g i (lines s)) (part_end t next ∙ ap (λ (k : ℕ). drop k t) e) ∙ sym o.takes in
+rest_put t out o r new k p =
+    let e : o.next ≡ k.past = omega (arith, k.place) in
+    let q : following o.heading.variables o.heading.clauses o.heading.groups o.line (lines (take (length t - o.next) (drop o.next t))) ≡ taking_text t =
+    ap (λ (s : List ℕ). following o.heading.variables o.heading.clauses o.heading.groups o.line (lines s)) (part_end t o.next ∙ ap (λ (j : ℕ). drop j t) e) ∙ sym k.takes in
     subst (λ (a : Answer Book). Put a out r new) q p
 
 -- the contract of `from_text`
-abbrev pub FromText : List ℕ → List ℕ → Written → List ℕ → Type 0
+abbrev pub FromText : List ℕ → List ℕ → Result ℕ Refusal → List ℕ → Type 0
 FromText t out r new = Told (from_text t (length out)) out r new
 
-pub from_text_one : (t out : List ℕ) (r r' : Written) (new new' : List ℕ) → FromText t out r new → FromText t out r' new' → (r ≡ r') × (new ≡ new')
+pub from_text_one : (t out : List ℕ) (r r' : Result ℕ Refusal) (new new' : List ℕ) → FromText t out r new → FromText t out r' new' → (r ≡ r') × (new ≡ new')
 unfolding from_text
 from_text_one t out r r' new new' p q = put_one (taking_text t) out r r' new new' p q

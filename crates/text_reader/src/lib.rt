@@ -1,60 +1,58 @@
 // A group CNF text turned into a rule book. First all of it is tested, and then its clauses are gone through again and written.
 #![tactic(auto)]
 
-ghost use Rattle.std.specs.Prelude.{◌≡◌, [], ◌∷◌, ◌+◌, ◌*◌, ◌^◌, ◌<◌, ◌≤◌, length};
+ghost use Rattle.std.specs.Prelude.{◌≡◌, ◌+◌, ◌^◌, ◌<◌, ◌≤◌, MatchOption, length};
 ghost use Rattle.answer.specs.Answer.{first};
+ghost use Rattle.answer.specs.Refusals.{wrong_is, answer_is};
 ghost use Rattle.answer.specs.Space.{written_is, counted, laid, Wrote};
-ghost use Rattle.field.specs.Words.{word_bytes};
-ghost use Rattle.meaning.specs.Book.{clause_from};
-ghost use Rattle.book.specs.Bytes.{clause_bytes, clauses_bytes};
+ghost use Rattle.book.specs.Bytes.{clauses_bytes};
 ghost use Rattle.text.specs.Lines.{lines};
 ghost use Rattle.text.specs.Taking.{heading_tests, following};
 ghost use Rattle.writer.specs.Steps.{taken_of};
 ghost use Rattle.text_reader.specs.FromText.{from_rest, from_text};
-ghost use Rattle.text_reader.specs.Steps.{past_of, heading_of, opening_of, clauses_of, AreClauses};
+ghost use Rattle.text_reader.specs.Steps.{past_of, line_in, after_line, heading_of, opening_of, clauses_of, AreClauses};
 
-use answer::Written;
-use book::{MOST_BYTES, MOST_CLAUSES, MOST_GROUPS, MOST_VARIABLES};
-use clause_line::Step;
-use line::Start;
+use answer::{Cause, Refusal};
+use book::{MOST_CLAUSES, MOST_GROUPS, MOST_VARIABLES};
+use clause_line::Limits;
+use line::{Heading, Start};
 use writer::Taken;
 
-// What the lines up to the `p` line are found to be: its numbers, its line's number, and the place after it; or the refusal.
-#[derive(Drop)]
-enum Opening {
-    Heading {
-        variables: u16,
-        clauses: u16,
-        groups: u16,
-        line: usize,
-        next: usize,
-    },
-    Refused {
-        number: u8,
-        place: usize,
-    },
+// The `p` line of a text: its numbers, its line's number, and the place after it.
+#[derive(Clone, Copy)]
+struct Opening {
+    heading: Heading,
+    line: usize,
+    next: usize,
 }
 
-// What is wrong with the numbers of a `p` line, by number; 0 if nothing is.
-fn wrong_heading(variables: u16, clauses: u16, groups: u16) -> u8
-    ensures { result ≡ first (heading_tests variables clauses groups) }
+// Whether the numbers of a `p` line are right; else why not.
+#[tactic(auto, unfolding(answer::specs::Answer::first))]
+fn test_heading(heading: Heading) -> Result<(), Cause>
+    ensures { wrong_is result ≡ first (heading_tests heading.variables heading.clauses heading.groups) }
 {
+    let Heading {
+        variables,
+        clauses,
+        groups,
+    } = heading;
     if variables < 1 {
-        return 7;
+        return Err(Cause::OutOfRange);
     }
     if MOST_VARIABLES < variables {
-        return 7;
+        return Err(Cause::OutOfRange);
     }
     if MOST_GROUPS < groups {
-        return 7;
+        return Err(Cause::OutOfRange);
     }
     if MOST_CLAUSES < clauses {
-        return 7;
+        return Err(Cause::OutOfRange);
     }
-    0
+    Ok(())
 }
 
 // The place after a line of `length` bytes that stands first: past its line feed, if it has one.
+#[tactic(auto, unfolding(crate::specs::Steps::past_of))]
 fn past(text: &[u8], length: usize) -> usize
     ensures { result ≡ past_of text.now length }
 {
@@ -64,158 +62,113 @@ fn past(text: &[u8], length: usize) -> usize
     length
 }
 
-// What a `p` line with these numbers is found to be.
-fn open_heading(variables: u16, clauses: u16, groups: u16, line: usize, next: usize) -> Opening
-    ensures { result ≡ heading_of variables clauses groups line next }
+// The first line of a text, and what follows its line feed. An empty text has none.
+fn split_line(text: &[u8]) -> Option<(&[u8], &[u8])>
+    ensures { MatchOption result (length text.now ≡ 0) (λ p. (p.0.now ≡ line_in text.now) × (p.1.now ≡ after_line text.now) × (0 < length text.now)) }
 {
-    let number = wrong_heading(variables, clauses, groups);
-    if number != 0 {
-        return Opening::Refused {
-            number,
-            place: line,
-        };
+    if text.is_empty() {
+        return None;
     }
-    Opening::Heading {
-        variables,
-        clauses,
-        groups,
+    let end = line::line_length(text);
+    let next = past(text, end);
+    Some((&text[..end], &text[next..]))
+}
+
+// What a `p` line with these numbers is found to be.
+fn open_heading(heading: Heading, line: usize, next: usize) -> Result<Opening, Refusal>
+    ensures { answer_is (λ o. o) result ≡ heading_of heading line next }
+{
+    test_heading(heading).map_err(|cause| cause.at(line))?;
+    Ok(Opening {
+        heading,
         line,
         next,
-    }
+    })
 }
 
 // The lines up to the `p` line.
-fn open_text(text: &[u8]) -> Opening
-    ensures { result ≡ opening_of text.now }
+fn open_text(text: &[u8]) -> Result<Opening, Refusal>
+    ensures { answer_is (λ o. o) result ≡ opening_of text.now }
 {
-    let mut t = text;
-    let mut at: usize = 0;
+    let mut rest = text;
     let mut line: usize = 1;
-    while t.len() > 0 {
-        let n = line::line_length(t);
-        let next = past(t, n);
-        let first = &t[..n];
-        let place = line;
-        t = &t[next..];
-        at += next;
-        line += 1;
+    while let Some((first, later)) = split_line(rest) {
         match line::start_of(first) {
-            Start::Skipped => {}
-            Start::Heading {
-                variables,
-                clauses,
-                groups,
-            } => {
-                return open_heading(variables, clauses, groups, place, at);
+            Some(Start::Skipped) => {}
+            Some(Start::Heading(heading)) => {
+                return open_heading(heading, line, text.len() - later.len());
             }
-            Start::Clause { group: _, next: _ } => {
-                return Opening::Refused { number: 22, place };
-            }
-            Start::Formless => {
-                return Opening::Refused { number: 22, place };
-            }
+            Some(Start::Clause { .. }) => return Err(Cause::Formless.at(line)),
+            None => return Err(Cause::Formless.at(line)),
         }
+        rest = later;
+        line += 1;
     }
-    Opening::Refused {
-        number: 22,
-        place: 0,
-    }
+    Err(Cause::Formless.at(0))
 }
 
-// Clause by clause after the `p` line, which announced so many clauses and is line `opened`.
-fn take_clauses(rest: &[u8], variables: u16, clauses: u16, groups: u16, opened: usize) -> Taken
-    requires { (variables < 65535) × (groups < 65535) × (opened + length rest.now ≤ 2 ^ 63) }
-    ensures { result ≡ taken_of (following variables clauses groups opened (lines rest.now)) }
+// Clause by clause after the `p` line, which has these numbers and is line `opened`.
+fn take_clauses(clauses: &[u8], heading: Heading, opened: usize) -> Result<Taken, Refusal>
+    requires { (heading.variables < 65535) × (heading.groups < 65535) × (opened + length clauses.now ≤ 2 ^ 63) }
+    ensures { answer_is (λ t. t) result ≡ taken_of (following heading.variables heading.clauses heading.groups opened (lines clauses.now)) }
 {
-    let mut body = [0u16; 33];
-    let mut t = rest;
-    let mut line = opened + 1;
-    let mut left: u16 = MOST_CLAUSES;
-    let mut size: usize = 10;
-    while t.len() > 0 {
-        let n = line::line_length(t);
-        let next = past(t, n);
-        let first = &t[..n];
-        let place = line;
-        t = &t[next..];
-        line += 1;
-        match clause_line::step_of(first, variables, groups, left, &mut body) {
-            Step::Skipped => {}
-            Step::Wrong { number } => {
-                return Taken::Refused { number, place };
-            }
-            Step::Clause { count, .. } => {
-                size += 7 + 2 * count;
-                left -= 1;
-            }
-        }
-    }
-    if MOST_CLAUSES - left != clauses {
-        return Taken::Refused {
-            number: 21,
-            place: opened,
-        };
-    }
-    Taken::Book {
+    let Heading {
         variables,
         groups,
-        length: size,
+        ..
+    } = heading;
+    let mut body = [0u16; 33];
+    let mut rest = clauses;
+    let mut line = opened + 1;
+    let mut left = MOST_CLAUSES;
+    let mut length: usize = 10;
+    while let Some((first, later)) = split_line(rest) {
+        let limits = Limits {
+            variables,
+            groups,
+            left,
+        };
+        let step = clause_line::step_of(first, limits, &mut body);
+        if let Some(clause) = step.map_err(|cause| cause.at(line))? {
+            length += 7 + 2 * clause.count;
+            left -= 1;
+        }
+        rest = later;
+        line += 1;
     }
-}
-
-// Writes numbers, and gives the place after them. The same below.
-fn put_words(words: &[u16], out: &mut [u8], at: usize) -> usize
-    requires { at + 2 * length words.now ≤ length out.old }
-    ensures { Wrote out.old at (word_bytes words.now) out.new result }
-{
-    let mut t = words;
-    let mut i = at;
-    while t.len() > 0 {
-        i = field::put_word(t[0], out, i);
-        t = &t[1..];
+    if MOST_CLAUSES - left != heading.clauses {
+        return Err(Cause::WrongClauseCount.at(opened));
     }
-    i
-}
-
-// Writes a clause's field.
-fn put_clause(group: u16, head: u16, body: &[u16], out: &mut [u8], at: usize) -> usize
-    requires body_len_bound { length body.now ≤ 32 }
-    requires body_in_bounds { at + (7 + 2 * length body.now) ≤ length out.old }
-    ensures { Wrote out.old at (clause_bytes (clause_from (group ∷ []) head body.now)) out.new result }
-{
-    let n = 4 + 2 * body.len();
-    let a = field::put_front(2, n as u16, out, at);
-    let b = field::put_word(group, out, a);
-    let c = field::put_word(head, out, b);
-    put_words(body, out, c)
+    Ok(Taken {
+        variables,
+        groups,
+        length,
+    })
 }
 
 // Writes the clauses after the `p` line of a text that was taken, and the end, from 7 on.
-fn put_clauses(rest: &[u8], variables: u16, groups: u16, out: &mut [u8]) -> usize
-    requires variables_bound { (variables < 65535) × (groups < 65535) × AreClauses variables groups rest.now }
-    requires rest_in_bounds { 7 + length (clauses_bytes (clauses_of variables groups rest.now)) ≤ length out.old }
-    ensures { Wrote out.old 7 (clauses_bytes (clauses_of variables groups rest.now)) out.new result }
+fn put_clauses(clauses: &[u8], variables: u16, groups: u16, out: &mut [u8]) -> usize
+    requires variables_bound { (variables < 65535) × (groups < 65535) × AreClauses variables groups clauses.now }
+    requires rest_in_bounds { 7 + length (clauses_bytes (clauses_of variables groups clauses.now)) ≤ length out.old }
+    ensures { Wrote out.old 7 (clauses_bytes (clauses_of variables groups clauses.now)) out.new result }
 {
     let mut body = [0u16; 33];
-    let mut t = rest;
-    let mut left: u16 = MOST_CLAUSES;
+    let mut rest = clauses;
+    let mut left = MOST_CLAUSES;
     let mut at: usize = 7;
-    while t.len() > 0 {
-        let n = line::line_length(t);
-        let next = past(t, n);
-        let first = &t[..n];
-        t = &t[next..];
-        match clause_line::step_of(first, variables, groups, left, &mut body) {
-            Step::Skipped => {}
-            Step::Wrong { number: _ } => {
-                // a text that was taken has no such line
-                return at;
-            }
-            Step::Clause { group, head, count } => {
-                at = put_clause(group, head, &body[..count], out, at);
-                left -= 1;
-            }
+    while let Some((first, later)) = split_line(rest) {
+        let limits = Limits {
+            variables,
+            groups,
+            left,
+        };
+        // a text that was taken has no line that is refused
+        let step = clause_line::step_of(first, limits, &mut body).unwrap();
+        if let Some(clause) = step {
+            at = writer::put_clause(clause.group, clause.head, &body[..clause.count], out, at);
+            left -= 1;
         }
+        rest = later;
     }
     field::put_front(0, 0, out, at)
 }
@@ -223,54 +176,25 @@ fn put_clauses(rest: &[u8], variables: u16, groups: u16, out: &mut [u8]) -> usiz
 // Writes the book whose `p` line is line `opened` and has these numbers, and whose clauses are in `rest`.
 fn write_rest(
     rest: &[u8],
-    variables: u16,
-    clauses: u16,
-    groups: u16,
+    heading: Heading,
     opened: usize,
     out: &mut [u8],
-) -> Written
-    requires { (variables < 65535) × (groups < 65535) × (opened + length rest.now ≤ 2 ^ 63) }
-    ensures { (written_is result ≡ counted (from_rest variables clauses groups opened rest.now (length out.old)))
-        × (out.new ≡ laid (from_rest variables clauses groups opened rest.now (length out.old)) out.old) }
+) -> Result<usize, Refusal>
+    requires { (heading.variables < 65535) × (heading.groups < 65535) × (opened + length rest.now ≤ 2 ^ 63) }
+    ensures { (written_is result ≡ counted (from_rest heading.variables heading.clauses heading.groups opened rest.now (length out.old)))
+        × (out.new ≡ laid (from_rest heading.variables heading.clauses heading.groups opened rest.now (length out.old)) out.old) }
 {
-    match take_clauses(rest, variables, clauses, groups, opened) {
-        Taken::Refused { number, place } => Written::Refused { number, place },
-        Taken::Book {
-            variables,
-            groups,
-            length,
-        } => {
-            if MOST_BYTES < length {
-                return Written::Refused {
-                    number: 1,
-                    place: 0,
-                };
-            }
-            if out.len() < length {
-                return Written::Refused {
-                    number: 11,
-                    place: 0,
-                };
-            }
-            writer::put_header(variables, groups, out);
-            let count = put_clauses(rest, variables, groups, out);
-            Written::Count { count }
-        }
-    }
+    let taken = take_clauses(rest, heading, opened)?;
+    taken.test_room(out.len()).map_err(|cause| cause.at(0))?;
+    writer::put_header(taken.variables, taken.groups, out);
+    let count = put_clauses(rest, taken.variables, taken.groups, out);
+    Ok(count)
 }
 
 // Turns a text into a book.
-pub fn from_text(text: &[u8], out: &mut [u8]) -> Written
+pub fn from_text(text: &[u8], out: &mut [u8]) -> Result<usize, Refusal>
     ensures { (written_is result ≡ counted (from_text text.now (length out.old))) × (out.new ≡ laid (from_text text.now (length out.old)) out.old) }
 {
-    match open_text(text) {
-        Opening::Refused { number, place } => Written::Refused { number, place },
-        Opening::Heading {
-            variables,
-            clauses,
-            groups,
-            line,
-            next,
-        } => write_rest(&text[next..], variables, clauses, groups, line, out),
-    }
+    let opening = open_text(text)?;
+    write_rest(&text[opening.next..], opening.heading, opening.line, out)
 }

@@ -1,11 +1,11 @@
 -- What holds as a plain form that was taken is written.
---   length_amounts, amounts_none, amounts_more      numbers without their signs
+--   words_more                  what is left of some numbers, by the next
 --   clause_wrote                a clause's field: its front, its groups, its head, its body
 --   header_wrote                the header
 --   Copying                     the invariant of `put_clauses`: t is the plain form of the clauses that are left
 --   Copy, copy                  what it says at a clause
 --   copy_room, copy_next        there is room for the clause; its next turn
---   copy_none                   no scan finds something wrong
+--   copy_scanned                a scan finds nothing wrong
 --   copy_last, copy_end         at the end: there is room for it, and all is written
 -- Assumes nothing.
 use Prim.Native.Nat.{ℕ, zero, suc, ◌+◌, ◌-◌, ◌*◌, ◌%◌, ◌≤◌, ◌<◌}
@@ -15,8 +15,13 @@ use mathlib.Core.Bool.{true}
 use native.Mathlib.Omega.{arith}
 use lib.IntN.{ℤ, pos, nat_abs, neg_ℤ}
 use lib.ListN.{length, get_or, take, drop, length-append, length-drop}
-use lib.Seq.{take_at}
+use lib.Seq.{drop-cons, take_at}
+use Rattle.std.specs.Prelude.{map, Result, Ok, Err}
+use Rattle.std.proofs.Math.Numerals.{add-one}
+use Rattle.std.proofs.lemmas.List.{length-map}
 use Rattle.answer.specs.Answer.{answered}
+use Rattle.answer.specs.Refusals.{answer_is}
+use Rattle.answer.specs.declared.Refusal.{Refusal}
 use Rattle.answer.specs.Space.{Wrote}
 use Rattle.answer.proofs.Spaces.{wrote_append, Writing, writing_room, writing_next, writing_end}
 use Rattle.field.specs.Words.{word_bytes, within}
@@ -32,27 +37,17 @@ use Rattle.plain.specs.Taking.{Ended, literals_at}
 use Rattle.plain.proofs.Given.{length_each, clause_numbers, plain_one, body_taken}
 use Rattle.plain.proofs.Back.{Place, place_more, literals_back}
 use Rattle.writer.specs.Steps.{scan_of, amounts}
-use Rattle.writer.specs.declared.Scan.TheVariants as ScanV
-use Rattle.writer.proofs.Firsts.{tail, cut}
+use Rattle.writer.specs.declared.Scanned.{Scanned}
 use Rattle.writer.proofs.Passing.{scan_closed}
 
-pub length_amounts : (xs : List ℤ) → length (amounts xs) ≡ length xs
-unfolding amounts
-length_amounts [] = refl
-length_amounts (x ∷ xs) = ap suc (length_amounts xs)
-
-pub amounts_none : (t : List ℤ) → length t ≤ 0 → word_bytes (amounts t) ≡ []
-unfolding amounts word_bytes
-amounts_none [] h = refl
-amounts_none (x ∷ t) h = absurd (omega arith)
-
-pub amounts_more : (t : List ℤ) (w : ℕ) → (length t ≡ 0 → ⊥) → w ≡ nat_abs (get_or t 0 (pos 0)) % 65536 → word_bytes (amounts t) ≡ word_bytes (w ∷ []) ++ word_bytes (amounts (tail t))
-unfolding amounts word_bytes
-amounts_more t w some is = ap (λ (l : List ℤ). word_bytes (amounts l)) (cut t some) ∙ simp (← is)
+pub words_more : {A : Type 0} (f : A → ℕ) (xs : List A) (i w : ℕ) (x : A) → i < length xs → x ≡ get_or xs i x → w ≡ f x
+    → word_bytes (map f (drop i xs)) ≡ word_bytes (w ∷ []) ++ word_bytes (map f (drop (i + 1) xs))
+unfolding word_bytes
+words_more f xs i w x h is e = rw (add-one, drop-cons xs i x, ← is, e)
 
 -- the variables of a body are small
 amounts_literals : (v : ℕ) (ws : List ℕ) → v ≤ 1024 → within 1 v ws ≡ true → amounts (literals ws) ≡ ws
-unfolding amounts each
+unfolding each
 amounts_literals v [] h e = refl
 amounts_literals v (w ∷ ws) h e =
     let p = within_cons 1 v w ws e in
@@ -106,18 +101,18 @@ pub record Copying (v g : ℕ) (all : List Clause) (size : ℕ) (out₀ out : Li
   pub place : i + length t ≡ size
   pub writing : Writing (clauses_bytes all) out₀ 7 out at (clauses_bytes left)
 
--- at a clause: h, c and j are what the scan of its literals found
-pub record Copy (v g : ℕ) (t : List ℤ) (i : ℕ) (left : List Clause) (h c j : ℕ) : Type 0 where
+-- at a clause, whose group is x: s is what the scan of the numbers u after it found
+pub record Copy (v g : ℕ) (x : ℤ) (u : List ℤ) (i : ℕ) (left : List Clause) (s : Scanned) : Type 0 where
   pub now : Clause
   pub later : List Clause
   pub is : left ≡ now ∷ later
   pub good : GoodClause v g now
-  pub above : i < j
-  pub inside : j ≤ i + length t
-  pub rest : drop (j - i) t ≡ plain_clauses later
-  pub few : c ≤ 32
-  pub long : 1 + c ≤ length t
-  pub here : clause_from (amounts (take 1 t)) h (amounts (take (1 + c - 1) (drop 1 t))) ≡ now
+  pub above : i < s.next
+  pub inside : s.next ≤ i + length (x ∷ u)
+  pub rest : drop (s.next - i) (x ∷ u) ≡ plain_clauses later
+  pub few : s.count ≤ 32
+  pub long : s.count ≤ length u
+  pub here : clause_from ((nat_abs x % 65536) ∷ []) s.head (amounts (take s.count u)) ≡ now
 
 -- what a scan finds in the plain form of a clause
 scan_one : (v g i : ℕ) (c : Clause) (n : ℕ) (xs : List ℤ) → GoodClause v g c → c.groups ≡ n ∷ []
@@ -127,138 +122,137 @@ scan_one v g i c n xs k e =
     (record { head = c.head; body = c.body; next = b.0; rest = xs }, b.1, refl, refl, refl)
 
 module _ (v g : ℕ) (vs : v ≤ 1024) (gs : g ≤ 65535) (i : ℕ) (d : Clause) (ds : List Clause) (k : GoodClause v g d) (n : ℕ) (one : d.groups ≡ n ∷ []) where
-  abbrev u : List ℤ
-  u = literals d.body ++ (head_literal d.head ++ (pos 0 ∷ plain_clauses ds))
+  abbrev after : List ℤ
+  after = literals d.body ++ (head_literal d.head ++ (pos 0 ∷ plain_clauses ds))
 
-  body_part_lem : take (length d.body) u ≡ literals d.body
+  body_part_lem : take (length d.body) after ≡ literals d.body
   body_part_lem = take_at (literals d.body) (head_literal d.head ++ (pos 0 ∷ plain_clauses ds)) (length d.body) (length_each minus d.body)
 
-  -- the scan found h, c and j
-  module _ (h c j : ℕ) (e : Ended) (a : literals_at v 0 0 0 (i + 1) u ≡ answered e) (eh : h ≡ e.head) (ec : c ≡ length e.body) (ej : j ≡ e.next) where
-    copy_one : Copy v g (pos n ∷ u) i (d ∷ ds) h c j
-    unfolding amounts
-    copy_one =
-        let s = scan_one v g i d n (plain_clauses ds) k one in
-        let same : answered e ≡ answered s.0 = sym a ∙ s.1 in
-        let q : e ≡ s.0 = cc in
-        let b = literals_back v 0 0 (i + 1) u e (omega arith) a in
-        let p : Place i (pos n ∷ u) e.next e.rest = place_more i (pos n) u e.next e.rest b.place in
-        let body : e.body ≡ d.body = ap (λ (m : Ended). m.body) q ∙ s.3 in
-        let head : e.head ≡ d.head = ap (λ (m : Ended). m.head) q ∙ s.2 in
-        let rest : e.rest ≡ plain_clauses ds = ap (λ (m : Ended). m.rest) q ∙ s.4 in
-        let count : c ≡ length d.body = ec ∙ ap length body in
-        let cuts : 1 + c - 1 ≡ length d.body = omega arith in
-        let small : n ≤ g = within_one 0 g n (simp one at k.inside) in
-        let low : n % 65536 ≡ n = omega arith in
-        record {
-          now = d;
-          later = ds;
-          is = refl;
-          good = k;
-          above = omega (arith, p.above, ej);
-          inside = omega (arith, p.inside, ej);
-          rest = ap (λ (m : ℕ). drop (m - i) (pos n ∷ u)) ej ∙ p.rest ∙ rest;
-          few = omega (arith, k.few);
-          long = omega (arith, ap length body_part_lem, length-append (literals d.body) (head_literal d.head ++ (pos 0 ∷ plain_clauses ds)), length_each minus d.body);
-          here = simp (eh ∙ head, cuts, body_part_lem, amounts_literals v d.body vs k.variables, low) (ap (λ (l : List ℕ). clause_from l d.head d.body) (sym one));
-        }
+  copy_one : (s : Scanned) → answered s ≡ scan_of 0 (literals_at v 0 0 0 (i + 1) after) → Copy v g (pos n) after i (d ∷ ds) s
+  copy_one s q =
+      let f = scan_closed (literals_at v 0 0 0 (i + 1) after) s q in
+      let o = scan_one v g i d n (plain_clauses ds) k one in
+      let same : answered f.0 ≡ answered o.0 = sym f.1 ∙ o.1 in
+      let e : f.0 ≡ o.0 = cc in
+      let b = literals_back v 0 0 (i + 1) after f.0 (omega arith) f.1 in
+      let p : Place i (pos n ∷ after) f.0.next f.0.rest = place_more i (pos n) after f.0.next f.0.rest b.place in
+      let body : f.0.body ≡ d.body = ap (λ (m : Ended). m.body) e ∙ o.3 in
+      let head : f.0.head ≡ d.head = ap (λ (m : Ended). m.head) e ∙ o.2 in
+      let rest : f.0.rest ≡ plain_clauses ds = ap (λ (m : Ended). m.rest) e ∙ o.4 in
+      let count : s.count ≡ length d.body = f.3 ∙ ap length body in
+      let small : n ≤ g = within_one 0 g n (simp one at k.inside) in
+      let low : n % 65536 ≡ n = omega arith in
+      record {
+        now = d;
+        later = ds;
+        is = refl;
+        good = k;
+        above = omega (arith, p.above, f.4);
+        inside = omega (arith, p.inside, f.4);
+        rest = ap (λ (m : ℕ). drop (m - i) (pos n ∷ after)) f.4 ∙ p.rest ∙ rest;
+        few = omega (arith, k.few);
+        long = omega (arith, length-append (literals d.body) (head_literal d.head ++ (pos 0 ∷ plain_clauses ds)), length_each minus d.body);
+        here = simp (f.2 ∙ head, count, body_part_lem, amounts_literals v d.body vs k.variables, low) (ap (λ (l : List ℕ). clause_from l d.head d.body) (sym one));
+      }
 
--- where a clause is left, and the scan of its literals found h, c and j
-copy_of : (v g : ℕ) → v ≤ 1024 → g ≤ 65535 → (t : List ℤ) (i : ℕ) (left : List Clause) → plain_clauses left ≡ t → GoodClauses v g left → (length t ≡ 0 → ⊥)
-    → (h c j : ℕ) → ScanV.Closed h c j ≡ scan_of 0 (literals_at v 0 0 0 (i + 1) (tail t)) → Copy v g t i left h c j
-unfolding plain_clauses
-copy_of v g vs gs t i [] same good some h c j s = absurd (some (ap length (sym same)))
-copy_of v g vs gs t i (d ∷ ds) same good some h c j s = go d.groups refl
-  where
-    go : (ns : List ℕ) → d.groups ≡ ns → Copy v g t i (d ∷ ds) h c j
-    go [] e = absurd (omega (arith, ap length e, good.0.one))
-    go (n ∷ (m ∷ ns)) e = absurd (omega (arith, ap length e, good.0.one))
-    go (n ∷ []) e =
-        let is : pos n ∷ u v g vs gs i d ds good.0 n e ≡ t = sym (plain_one d n (plain_clauses ds) e) ∙ same in
-        let cut_off : tail t ≡ u v g vs gs i d ds good.0 n e = ap tail (sym is) ∙ part_end (pos n ∷ u v g vs gs i d ds good.0 n e) 1 in
-        let f = scan_closed (literals_at v 0 0 0 (i + 1) (tail t)) h c j s in
-        simp (← is) (copy_one v g vs gs i d ds good.0 n e h c j f.0 (ap (literals_at v 0 0 0 (i + 1)) (sym cut_off) ∙ f.1) f.2 f.3 f.4)
+-- where a clause is left
+module _ (v g : ℕ) (vs : v ≤ 1024) (gs : g ≤ 65535) (i : ℕ) (x : ℤ) (u : List ℤ) where
+  copy_of : (left : List Clause) → plain_clauses left ≡ x ∷ u → GoodClauses v g left → (s : Scanned) → answered s ≡ scan_of 0 (literals_at v 0 0 0 (i + 1) u) → Copy v g x u i left s
+  unfolding plain_clauses
+  copy_of [] same good s q = cc
+  copy_of (d ∷ ds) same good s q = go d.groups refl
+    where
+      go : (ns : List ℕ) → d.groups ≡ ns → Copy v g x u i (d ∷ ds) s
+      go [] e = absurd (omega (arith, ap length e, good.0.one))
+      go (n ∷ (m ∷ ns)) e = absurd (omega (arith, ap length e, good.0.one))
+      go (n ∷ []) e =
+          let is : pos n ∷ after v g vs gs i d ds good.0 n e ≡ x ∷ u = sym (plain_one d n (plain_clauses ds) e) ∙ same in
+          let a : pos n ≡ x = cc in
+          let b : after v g vs gs i d ds good.0 n e ≡ u = cc in
+          simp (← a, ← b) (copy_one v g vs gs i d ds good.0 n e s (simp b q))
 
--- so a scan never finds anything wrong
-closed_of : (v g : ℕ) (t : List ℤ) (i : ℕ) (left : List Clause) → plain_clauses left ≡ t → GoodClauses v g left → (length t ≡ 0 → ⊥)
-    → (e : Ended) × (literals_at v 0 0 0 (i + 1) (tail t) ≡ answered e)
-unfolding plain_clauses
-closed_of v g t i [] same good some = absurd (some (ap length (sym same)))
-closed_of v g t i (d ∷ ds) same good some = go d.groups refl
-  where
-    go : (ns : List ℕ) → d.groups ≡ ns → (e : Ended) × (literals_at v 0 0 0 (i + 1) (tail t) ≡ answered e)
-    go [] e = absurd (omega (arith, ap length e, good.0.one))
-    go (n ∷ (m ∷ ns)) e = absurd (omega (arith, ap length e, good.0.one))
-    go (n ∷ []) e =
-        let x : List ℤ = literals d.body ++ (head_literal d.head ++ (pos 0 ∷ plain_clauses ds)) in
-        let is : t ≡ pos n ∷ x = sym same ∙ plain_one d n (plain_clauses ds) e in
-        let cut_off : tail t ≡ x = ap tail is ∙ part_end (pos n ∷ x) 1 in
-        let f = scan_one v g i d n (plain_clauses ds) good.0 e in
-        (f.0, ap (literals_at v 0 0 0 (i + 1)) cut_off ∙ f.1)
+  -- so a scan never finds anything wrong
+  scanned_of : (left : List Clause) → plain_clauses left ≡ x ∷ u → GoodClauses v g left → (e : Ended) × (literals_at v 0 0 0 (i + 1) u ≡ answered e)
+  unfolding plain_clauses
+  scanned_of [] same good = cc
+  scanned_of (d ∷ ds) same good = go d.groups refl
+    where
+      go : (ns : List ℕ) → d.groups ≡ ns → (e : Ended) × (literals_at v 0 0 0 (i + 1) u ≡ answered e)
+      go [] e = absurd (omega (arith, ap length e, good.0.one))
+      go (n ∷ (m ∷ ns)) e = absurd (omega (arith, ap length e, good.0.one))
+      go (n ∷ []) e =
+          let a : List ℤ = literals d.body ++ (head_literal d.head ++ (pos 0 ∷ plain_clauses ds)) in
+          let is : x ∷ u ≡ pos n ∷ a = sym same ∙ plain_one d n (plain_clauses ds) e in
+          let b : u ≡ a = cc in
+          let f = scan_one v g i d n (plain_clauses ds) good.0 e in
+          (f.0, ap (literals_at v 0 0 0 (i + 1)) b ∙ f.1)
 
-none_left : (cs : List Clause) → length (plain_clauses cs) ≤ 0 → cs ≡ []
+none_left : (cs : List Clause) → length (plain_clauses cs) ≡ 0 → cs ≡ []
 unfolding plain_clauses
 none_left [] h = refl
 none_left (c ∷ cs) h = absurd (omega (arith, length-append (plain_clause c) (plain_clauses cs), clause_numbers c))
 
+ok_of : (r : Result Scanned Refusal) (s : Scanned) → answer_is (λ k. k) r ≡ answered s → r ≡ Ok s
+ok_of (Ok k) s e = cc
+ok_of (Err k) s e = cc
+
 module _ (v g : ℕ) (all : List Clause) (size : ℕ) (out₀ out : List ℕ) (t : List ℤ) (i at : ℕ) (p : Copying v g all size out₀ out t i at) where
-  module _ (some : length t ≡ 0 → ⊥) (h c j : ℕ) (s : ScanV.Closed h c j ≡ scan_of 0 (literals_at v 0 0 0 (i + 1) (tail t))) where
-    pub copy : Copy v g t i p.left h c j
-    copy = copy_of v g p.variables p.groups t i p.left p.same p.good some h c j s
+  module _ (x : ℤ) (u : List ℤ) (is : t ≡ x ∷ u) where
+    pub copy_scanned : (r : Result Scanned Refusal) → answer_is (λ s. s) r ≡ scan_of 0 (literals_at v 0 0 0 (i + 1) u) → (s : Scanned) × (r ≡ Ok s)
+    unfolding scan_of
+    copy_scanned r q =
+        let e = scanned_of v g p.variables p.groups i x u p.left (p.same ∙ is) p.good in
+        (record { head = e.0.head; count = 0 + length e.0.body; next = e.0.next }, ok_of r _ (q ∙ ap (scan_of 0) e.1))
 
-    abbrev bytes : List ℕ
-    bytes = clause_bytes (clause_from (amounts (take 1 t)) h (amounts (take (1 + c - 1) (drop 1 t))))
+    module _ (s : Scanned) (q : answered s ≡ scan_of 0 (literals_at v 0 0 0 (i + 1) u)) where
+      pub copy : Copy v g x u i p.left s
+      copy = copy_of v g p.variables p.groups i x u p.left (p.same ∙ is) p.good s q
 
-    split : clauses_bytes p.left ≡ bytes ++ clauses_bytes copy.later
-    unfolding clauses_bytes
-    split = ap clauses_bytes copy.is ∙ ap (λ (d : Clause). clause_bytes d ++ clauses_bytes copy.later) (sym copy.here)
+      abbrev bytes : List ℕ
+      bytes = clause_bytes (clause_from ((nat_abs x % 65536) ∷ []) s.head (amounts (take s.count u)))
 
-    pub copy_room : 7 + length (clauses_bytes all) ≤ length out₀ → at + (5 + 2 * length (take 1 t) + 2 * length (take (1 + c - 1) (drop 1 t))) ≤ length out
-    copy_room r =
-        omega (
-          arith,
-          writing_room (clauses_bytes all) out₀ 7 out at (clauses_bytes p.left) p.writing r,
-          ap length split ∙ length-append bytes (clauses_bytes copy.later),
-          clause_length (clause_from (amounts (take 1 t)) h (amounts (take (1 + c - 1) (drop 1 t)))),
-          length_amounts (take 1 t),
-          length_amounts (take (1 + c - 1) (drop 1 t)),
-        )
+      split : clauses_bytes p.left ≡ bytes ++ clauses_bytes copy.later
+      unfolding clauses_bytes
+      split = ap clauses_bytes copy.is ∙ ap (λ (d : Clause). clause_bytes d ++ clauses_bytes copy.later) (sym copy.here)
 
-    pub copy_next : (out' : List ℕ) (at' : ℕ) → Wrote out at bytes out' at' → Copying v g all size out₀ out' (take (length t - (j - i)) (drop (j - i) t)) j at'
-    copy_next out' at' w =
-        let end : take (length t - (j - i)) (drop (j - i) t) ≡ drop (j - i) t = part_end t (j - i) in
-        record {
-          left = copy.later;
-          same = sym (end ∙ copy.rest);
-          good = later_good v g p.left p.good copy.now copy.later copy.is;
-          variables = p.variables;
-          groups = p.groups;
-          place = simp end (omega (arith, length-drop (j - i) t, p.place, copy.above, copy.inside));
-          writing = writing_next (clauses_bytes all) out₀ 7 out at (clauses_bytes p.left) p.writing bytes (clauses_bytes copy.later) out' at' split w;
-        }
-      where
-        later_good : (v g : ℕ) (cs : List Clause) → GoodClauses v g cs → (d : Clause) (ds : List Clause) → cs ≡ d ∷ ds → GoodClauses v g ds
-        later_good v g [] good d ds e = let z : ◌≡◌ {A = ℕ} 0 1 = cc in absurd (omega arith)
-        later_good v g (c ∷ cs) good d ds e = let q : cs ≡ ds = cc in simp (← q) good.1
+      pub copy_room : 7 + length (clauses_bytes all) ≤ length out₀ → at + (7 + 2 * length (take s.count u)) ≤ length out
+      copy_room r =
+          omega (
+            arith,
+            writing_room (clauses_bytes all) out₀ 7 out at (clauses_bytes p.left) p.writing r,
+            ap length split ∙ length-append bytes (clauses_bytes copy.later),
+            clause_length (clause_from ((nat_abs x % 65536) ∷ []) s.head (amounts (take s.count u))),
+            length-map (take s.count u) (λ x. nat_abs x % 65536),
+          )
 
-  pub copy_none : (length t ≡ 0 → ⊥) → (n q : ℕ) → ScanV.Wrong n q ≡ scan_of 0 (literals_at v 0 0 0 (i + 1) (tail t)) → ⊥
-  unfolding scan_of
-  copy_none some n q s =
-      let e = closed_of v g t i p.left p.same p.good some in
-      let w : ScanV.Wrong n q ≡ scan_of 0 (answered e.0) = s ∙ ap (scan_of 0) e.1 in
-      let z : ◌≡◌ {A = ℕ} 0 1 = cc in
-      omega arith
+      pub copy_next : (out' : List ℕ) (at' : ℕ) → Wrote out at bytes out' at' → Copying v g all size out₀ out' (take (length t - (s.next - i)) (drop (s.next - i) t)) s.next at'
+      copy_next out' at' w =
+          let end : take (length t - (s.next - i)) (drop (s.next - i) t) ≡ drop (s.next - i) t = part_end t (s.next - i) in
+          record {
+            left = copy.later;
+            same = sym (end ∙ ap (drop (s.next - i)) is ∙ copy.rest);
+            good = later_good v g p.left p.good copy.now copy.later copy.is;
+            variables = p.variables;
+            groups = p.groups;
+            place = simp end (omega (arith, length-drop (s.next - i) t, p.place, copy.above, copy.inside, ap length is));
+            writing = writing_next (clauses_bytes all) out₀ 7 out at (clauses_bytes p.left) p.writing bytes (clauses_bytes copy.later) out' at' split w;
+          }
+        where
+          later_good : (v g : ℕ) (cs : List Clause) → GoodClauses v g cs → (d : Clause) (ds : List Clause) → cs ≡ d ∷ ds → GoodClauses v g ds
+          later_good v g [] good d ds e = cc
+          later_good v g (c ∷ cs) good d ds e = let q : cs ≡ ds = cc in simp (← q) good.1
 
   -- after the last clause
-  pub copy_last : length t ≤ 0 → 7 + length (clauses_bytes all) ≤ length out₀ → at + 3 ≤ length out
-  unfolding clauses_bytes field_bytes
-  copy_last e r =
-      let none : p.left ≡ [] = none_left p.left (omega (arith, ap length p.same)) in
-      omega (arith, writing_room (clauses_bytes all) out₀ 7 out at (clauses_bytes p.left) p.writing r, ap (λ (cs : List Clause). length (clauses_bytes cs)) none)
+  module _ (e : length t ≡ 0) where
+    none : p.left ≡ []
+    none = none_left p.left (ap length p.same ∙ e)
 
-  pub copy_end : length t ≤ 0 → (out' : List ℕ) (r : ℕ) → Wrote out at (0 ∷ word_bytes (0 ∷ [])) out' r → Wrote out₀ 7 (clauses_bytes all) out' r
-  unfolding clauses_bytes field_bytes word_bytes
-  copy_end e out' r w =
-      let none : p.left ≡ [] = none_left p.left (omega (arith, ap length p.same)) in
-      let k = writing_next (clauses_bytes all) out₀ 7 out at (clauses_bytes p.left) p.writing (0 ∷ word_bytes (0 ∷ [])) [] out' r (ap clauses_bytes none) w in
-      writing_end (clauses_bytes all) out₀ 7 out' r [] k refl
+    pub copy_last : 7 + length (clauses_bytes all) ≤ length out₀ → at + 3 ≤ length out
+    unfolding clauses_bytes field_bytes
+    copy_last r = omega (arith, writing_room (clauses_bytes all) out₀ 7 out at (clauses_bytes p.left) p.writing r, ap (λ (cs : List Clause). length (clauses_bytes cs)) none)
+
+    pub copy_end : (out' : List ℕ) (r : ℕ) → Wrote out at (0 ∷ word_bytes (0 ∷ [])) out' r → Wrote out₀ 7 (clauses_bytes all) out' r
+    unfolding clauses_bytes field_bytes word_bytes
+    copy_end out' r w =
+        let k = writing_next (clauses_bytes all) out₀ 7 out at (clauses_bytes p.left) p.writing (0 ∷ word_bytes (0 ∷ [])) [] out' r (ap clauses_bytes none) w in
+        writing_end (clauses_bytes all) out₀ 7 out' r [] k refl

@@ -1,5 +1,5 @@
 -- The laws that the functions' proofs cite.
-mod Firsts
+mod Numbers
 mod Scans
 mod Passing
 pub mod Copying

@@ -9,7 +9,9 @@ use mathlib.Core.List.{List}
 use native.Mathlib.Omega.{arith}
 use lib.IntN.{ℤ}
 use lib.ListN.{length, take, drop, length-drop}
-use Rattle.answer.specs.declared.Written.{Written}
+use Rattle.std.specs.Prelude.{Result}
+use Rattle.answer.specs.Answer.{answered}
+use Rattle.answer.specs.declared.Refusal.{Refusal}
 use Rattle.answer.proofs.Spaces.{Told, writing_start}
 use Rattle.field.proofs.Parts.{part_end}
 use Rattle.book.specs.Bytes.{bytes_of}
@@ -18,19 +20,19 @@ use Rattle.plain.specs.Taking.{taking}
 use Rattle.plain.proofs.Back.{taking_back}
 use Rattle.writer.specs.Writes.{writes}
 use Rattle.writer.specs.Steps.{taken_of, book_from, IsPlain}
-use Rattle.writer.specs.declared.Taken.TheVariants as TakenV
+use Rattle.writer.specs.declared.Taken.{Taken}
 use Rattle.writer.proofs.Copying.{Copying}
 use Rattle.writer.proofs.Books.{taken_book, put_one}
 
-pub record Took (s : List ℤ) (v g n : ℕ) : Type 0 where
+pub record Took (s : List ℤ) (t : Taken) : Type 0 where
   pub is : IsPlain s
-  pub variables : v ≡ (book_from s).variables
-  pub groups : g ≡ (book_from s).groups
-  pub size : n ≡ length (bytes_of (book_from s))
+  pub variables : t.variables ≡ (book_from s).variables
+  pub groups : t.groups ≡ (book_from s).groups
+  pub size : t.length ≡ length (bytes_of (book_from s))
 
-pub took : (s : List ℤ) (v g n : ℕ) → TakenV.Book v g n ≡ taken_of (taking s) → Took s v g n
+pub took : (s : List ℤ) (t : Taken) → answered t ≡ taken_of (taking s) → Took s t
 unfolding IsPlain book_from
-took s v g n h = let t = taken_book (taking s) v g n h in record { is = t.0; variables = t.1; groups = t.2; size = t.3 }
+took s t h = let k = taken_book (taking s) t h in record { is = k.0; variables = k.1; groups = k.2; size = k.3 }
 
 pub record Ready (s : List ℤ) (v : ℕ) (out : List ℕ) : Type 0 where
   pub long : 2 ≤ length s
@@ -57,9 +59,9 @@ ready s v out is e =
     }
 
 -- the contract of `write`
-abbrev pub Write : List ℤ → List ℕ → Written → List ℕ → Type 0
+abbrev pub Write : List ℤ → List ℕ → Result ℕ Refusal → List ℕ → Type 0
 Write s out r new = Told (writes s (length out)) out r new
 
-pub write_one : (s : List ℤ) (out : List ℕ) (r r' : Written) (new new' : List ℕ) → Write s out r new → Write s out r' new' → (r ≡ r') × (new ≡ new')
+pub write_one : (s : List ℤ) (out : List ℕ) (r r' : Result ℕ Refusal) (new new' : List ℕ) → Write s out r new → Write s out r' new' → (r ≡ r') × (new ≡ new')
 unfolding writes
 write_one s out r r' new new' p q = put_one (taking s) out r r' new new' p q

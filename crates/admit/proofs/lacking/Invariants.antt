@@ -1,12 +1,8 @@
 -- `admit::lacking` meets its contract. The loop keeps: no group up to g is lacking.
 -- Assumes nothing.
-use Prim.Native.Nat.{◌-◌, ◌≤◌}
 use mathlib.Core.Path.{◌≡◌}
 use Rattle.admit.specs.Admits.{lacking}
 use Rattle.admit.proofs.lacking.Given as goal
 
 abbrev pub invariant-loop-g : goal.invariant-loop-g
-invariant-loop-g l = (lacking l.groups l.choice ≡ lacking l.g l.choice) × (l.g ≤ 32)
-
-abbrev pub decreases-loop-g : goal.decreases-loop-g
-decreases-loop-g l = 32 - l.g
+invariant-loop-g l = lacking l.groups l.choice ≡ lacking l.g l.choice

@@ -5,8 +5,8 @@ use lib.ListN.{length}
 use Rattle.clause_line.proofs.Scans.{Scanning}
 use Rattle.clause_line.proofs.scan_literals.Given as goal
 
-abbrev pub invariant-loop-next : goal.invariant-loop-next
-invariant-loop-next l = Scanning l.variables l.rest l.t l.initial.body l.body l.beyond l.several l.head l.count × (length l.body ≡ length l.initial.body)
+abbrev pub invariant-loop-literal : goal.invariant-loop-literal
+invariant-loop-literal l = Scanning l.variables l.rest l.t l.initial.body l.body l.scan × (length l.body ≡ length l.initial.body)
 
-abbrev pub decreases-loop-next : goal.decreases-loop-next
-decreases-loop-next l = length l.t
+abbrev pub decreases-loop-literal : goal.decreases-loop-literal
+decreases-loop-literal l = length l.t

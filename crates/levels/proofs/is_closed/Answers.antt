@@ -1,81 +1,24 @@
--- What `levels::is_closed` leaves open, from the laws.
-use mathlib.Core.Path.{refl, sym, ◌∙◌}
-use native.Mathlib.Omega.{arith}
-use Rattle.field.proofs.Parts.{part_shorter}
-use Rattle.book.specs.Bytes.{most_groups}
-use Rattle.book.specs.Walk.{book_of}
-use Rattle.book.proofs.Walk.{Begun, begun, Turn, walk_on, well_formed}
-use Rattle.marks.proofs.Walks.{turn_ready}
-use Rattle.levels.proofs.Confirming.{confirming_end, confirming_found, confirming_next}
+-- `levels::is_closed` meets its contract: `all` over the clauses.
+-- Assumes nothing.
+use mathlib.Core.Path.{sym, ◌∙◌}
+use Rattle.std.proofs.Common.{rules, tests}
+use Rattle.std.proofs.lemmas.Iterator.Adapters.{serves_from_places}
+use Rattle.std.proofs.lemmas.Iterator.Consumers.{YieldsList-from_first}
+use Rattle.std.proofs.lemmas.Iterator.Search.{all_from_yields_List}
+use Rattle.book.specs.Clauses.{clause_is, clauses_left}
+use Rattle.book.proofs.Walk.{found}
+use Rattle.marks.proofs.Walks.{fits_at}
+use Rattle.levels.specs.Levels.{stands, granted}
+use Rattle.levels.proofs.Confirming.{closed_all}
 use Rattle.levels.proofs.is_closed.Goals as goal
-use Rattle.levels.proofs.is_closed.Goals.{After-shared_slice_known-2-1, In-Clause}
 
--- the book is accepted, so the walk can begin
-start : (c : After-shared_slice_known-2-1) → Begun c.args.book.now
-start c = begun _ c.requires.0
+pub all-requires-clause-callable : goal.all-requires-clause-callable
+all-requires-clause-callable c =
+    serves_from_places (YieldsList-from_first clause_is clauses_left {s = c.walk.result} _ c.walk.ensures) (λ x q r. search rules)
+    (λ x k l e. let w = fits_at _ _ _ (found c.args.book.now) c.requires.0 k l e in search (rules, w.0, w.1, c.requires.1))
 
--- at a clause
-turn : (c : In-Clause)
-    → let b = book_of c.args.book.now in
-    Turn b.variables b.groups c.loop-groups.rest.now c.loop-groups.invariant.left c.in-Clause.groups c.in-Clause.head c.in-Clause.body c.in-Clause.size
-turn c =
-    walk_on _ _ _ _ _ _ _ _ c.loop-groups.invariant.walk (sym c.front_of.ensures ∙ c.in-Clause.is)
-
-pub slice_bounds-rest-count : goal.slice_bounds-rest-count
-slice_bounds-rest-count c = omega (arith, (start c).long)
-
-pub slice_bounds-rest-start : goal.slice_bounds-rest-start
-slice_bounds-rest-start c = omega (arith, (start c).long)
-
-pub loop-groups-init : goal.loop-groups-init
-loop-groups-init c = record { left = (book_of c.args.book.now).clauses; walk = (start (goal.at.loop-groups-init c).After-shared_slice_known-2-1).walk; so_far = refl }
-
-pub front_of-requires : goal.front_of-requires
-front_of-requires c = tt
-
-pub returns-in-End : goal.returns-in-End
-returns-in-End c = confirming_end _ _ _ _ _ _ _ c.loop-groups.invariant (sym c.front_of.ensures ∙ c.in-End.is)
-
-pub overflow_sub-last : goal.overflow_sub-last
-overflow_sub-last c = omega (arith, (turn c).before)
-
-pub slice_bounds-stands-count : goal.slice_bounds-stands-count
-slice_bounds-stands-count c = omega (arith, (turn c).before)
-
-pub slice_bounds-stands-start : goal.slice_bounds-stands-start
-slice_bounds-stands-start c = omega (arith, (turn c).before)
-
-pub slice_bounds-stands-end : goal.slice_bounds-stands-end
-slice_bounds-stands-end c = omega (arith, (turn c).before, (turn c).least, (turn c).fits)
-
-pub slice_bounds-stands-count-in-Clause : goal.slice_bounds-stands-count-in-Clause
-slice_bounds-stands-count-in-Clause c = (turn (goal.at.slice_bounds-stands-count-in-Clause c).In-Clause).least
-
-pub slice_bounds-stands-start-in-Clause : goal.slice_bounds-stands-start-in-Clause
-slice_bounds-stands-start-in-Clause c = (turn (goal.at.slice_bounds-stands-start-in-Clause c).In-Clause).least
-
-pub slice_bounds-stands-end-in-Clause : goal.slice_bounds-stands-end-in-Clause
-slice_bounds-stands-end-in-Clause c = (turn (goal.at.slice_bounds-stands-end-in-Clause c).In-Clause).fits
-
-pub stands-requires : goal.stands-requires
-stands-requires c = let p = c.requires in
-    let k = turn_ready _ _ _ _ _ _ _ _ (turn (goal.at.stands-requires c).In-Clause) most_groups (well_formed _ p.0).groups in
-    (k.groups, rw p.1 k.head, rw p.1 k.body, p.2)
-
-pub returns-then-not-stands : goal.returns-then-not-stands
-returns-then-not-stands c = confirming_found _ _ _ _ _ _ _ _ _ _ _ c.loop-groups.invariant (turn (goal.at.returns-then-not-stands c).In-Clause) _ c.stands.ensures
-    c.if-not-stands.true
-
-pub slice_bounds-rest-count-in-Clause : goal.slice_bounds-rest-count-in-Clause
-slice_bounds-rest-count-in-Clause c = omega (arith, (turn (goal.at.slice_bounds-rest-count-in-Clause c).In-Clause).fits)
-
-pub slice_bounds-rest-start-in-Clause : goal.slice_bounds-rest-start-in-Clause
-slice_bounds-rest-start-in-Clause c = omega (arith, (turn (goal.at.slice_bounds-rest-start-in-Clause c).In-Clause).fits)
-
-pub loop-groups-smaller : goal.loop-groups-smaller
-loop-groups-smaller c = let t = turn (goal.at.loop-groups-smaller c).In-Clause in
-    part_shorter c.loop-groups.rest.now _ (omega (arith, t.before, t.least)) t.fits
-
-pub loop-groups-preserved : goal.loop-groups-preserved
-loop-groups-preserved c = confirming_next _ _ _ _ _ _ _ _ _ _ _ c.loop-groups.invariant (turn (goal.at.loop-groups-preserved c).In-Clause) _
-    c.stands.ensures c.if-not-stands.false
+pub returns : goal.returns
+returns c =
+    all_from_yields_List (stands c.args.choice c.args.bound (granted c.args.levels.now)) c.all.new.self _ _ c.all.ensures.ran
+    (YieldsList-from_first clause_is clauses_left {s = c.walk.result} _ c.walk.ensures) (λ x b q k. search (rules, tests))
+    ∙ sym (closed_all _ _ _ _)

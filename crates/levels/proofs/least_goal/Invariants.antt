@@ -1,12 +1,8 @@
 -- `levels::least_goal` meets its contract. The loop's invariant is `Seeking`, of `Walks.antt`.
 -- Assumes nothing.
-use lib.ListN.{length}
-use Rattle.book.specs.Walk.{book_of}
+use Rattle.book.specs.Clauses.{meant, clauses_left}
 use Rattle.levels.proofs.Walks.{Seeking}
 use Rattle.levels.proofs.least_goal.Given as goal
 
-abbrev pub invariant-loop-groups : goal.invariant-loop-groups
-invariant-loop-groups l = Seeking (book_of l.book).variables (book_of l.book).groups l.kept l.pool (book_of l.book).clauses l.levels l.rest l.least
-
-abbrev pub decreases-loop-groups : goal.decreases-loop-groups
-decreases-loop-groups l = length l.rest
+abbrev pub invariant-loop-clause : goal.invariant-loop-clause
+invariant-loop-clause l = Seeking (meant l.book) l.arrivals.kept l.arrivals.pool l.levels (clauses_left l.clause-iterator) l.least

@@ -1,27 +1,19 @@
 -- What `levels::settle` leaves open, from the laws.
+-- Assumes nothing.
 use native.Mathlib.Omega.{arith}
+use Rattle.book.proofs.Walk.{found}
 use Rattle.levels.proofs.Walks.{falling_next, settled}
 use Rattle.levels.proofs.settle.Goals as goal
 
-pub loop-kept-init : goal.loop-kept-init
-loop-kept-init c = (c.requires.2, c.requires.3)
+pub loop-arrivals-smaller : goal.loop-arrivals-smaller
+loop-arrivals-smaller c = omega (arith, c.sweep.ensures.fell, c.loop-arrivals-test.true)
 
-pub sweep-n-requires : goal.sweep-n-requires
-sweep-n-requires c = (c.requires.0, c.loop-kept.invariant.0)
-
-pub shape_of-levels-then-n-eq0 : goal.shape_of-levels-then-n-eq0
-shape_of-levels-then-n-eq0 c = omega (arith, c.sweep-n.auto.levels, c.loop-kept.invariant.0, c.requires.2)
-
-pub returns-then-n-eq0 : goal.returns-then-n-eq0
-returns-then-n-eq0 c = let p = c.requires in
-    let w = c.sweep-n.ensures in
-    settled _ _ _ _ _ p.0 p.1 c.loop-kept.invariant.1 w.0 (omega (arith, w.1, c.if-n-eq0.true))
-
-pub loop-kept-smaller : goal.loop-kept-smaller
-loop-kept-smaller c = omega (arith, c.sweep-n.ensures.1, c.if-n-eq0.false)
-
-pub loop-kept-preserved : goal.loop-kept-preserved
-loop-kept-preserved c = (
-  omega (arith, c.sweep-n.auto.levels, c.loop-kept.invariant.0),
-  falling_next _ _ _ _ _ c.requires.1 c.loop-kept.invariant.1 c.sweep-n.ensures.0,
+pub loop-arrivals-preserved : goal.loop-arrivals-preserved
+loop-arrivals-preserved c = (
+  omega (arith, c.sweep.auto.levels, c.loop-arrivals.invariant.0),
+  falling_next _ _ _ _ _ c.requires.apart c.loop-arrivals.invariant.1 c.sweep.ensures.levels,
 )
+
+pub returns : goal.returns
+returns c =
+    settled _ _ _ _ _ (found c.args.book.now) c.requires.apart c.loop-arrivals.invariant.1 c.sweep.ensures.levels (omega (arith, c.sweep.ensures.fell, c.loop-arrivals-test.false))

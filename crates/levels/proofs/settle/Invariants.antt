@@ -2,12 +2,12 @@
 -- Assumes nothing.
 use mathlib.Core.Path.{◌≡◌}
 use lib.ListN.{length}
-use Rattle.book.specs.Walk.{book_of}
+use Rattle.book.specs.Clauses.{meant}
 use Rattle.levels.specs.Levels.{total, Settling}
 use Rattle.levels.proofs.settle.Given as goal
 
-abbrev pub invariant-loop-kept : goal.invariant-loop-kept
-invariant-loop-kept l = (length l.levels ≡ (book_of l.book).variables) × Settling (book_of l.book) l.kept l.pool l.levels
+abbrev pub invariant-loop-arrivals : goal.invariant-loop-arrivals
+invariant-loop-arrivals l = (length l.levels ≡ (meant l.book).variables) × Settling (meant l.book) l.arrivals.kept l.arrivals.pool l.levels
 
-abbrev pub decreases-loop-kept : goal.decreases-loop-kept
-decreases-loop-kept l = total l.levels
+abbrev pub decreases-loop-arrivals : goal.decreases-loop-arrivals
+decreases-loop-arrivals l = total l.levels

@@ -1,15 +1,13 @@
 -- What `line::line_length` leaves open, from the laws.
-use Rattle.line.proofs.Tokens.{running_start, running_cut, running_next, running_end, ends_feed, ends_other}
+use Rattle.std.proofs.Common.{◌∙◌, rules, tests}
+use Rattle.std.proofs.lemmas.Iterator.{YieldsList-from_slice}
+use Rattle.std.proofs.lemmas.Iterator.Search.{position_from_yields_List}
+use Rattle.text.specs.Lines.{ends}
+use Rattle.line.proofs.Tokens.{run_position}
 use Rattle.line.proofs.line_length.Goals as goal
 
-pub loop-n-init : goal.loop-n-init
-loop-n-init c = running_start _ _
-
-pub returns-then-text-n-eq10 : goal.returns-then-text-n-eq10
-returns-then-text-n-eq10 c = running_cut _ _ _ c.loop-n.invariant c.loop-n-test.true (ends_feed _ c.if-text-n-eq10.true)
-
-pub loop-n-preserved : goal.loop-n-preserved
-loop-n-preserved c = running_next _ _ _ c.loop-n.invariant c.loop-n-test.true (ends_other _ c.if-text-n-eq10.false)
-
 pub returns : goal.returns
-returns c = running_end _ _ _ c.loop-n.invariant c.loop-n-test.false
+unfolding ends
+returns c = c.unwrap_or.ensures
+    ∙ run_position ends _ _
+    (position_from_yields_List ends _ _ _ c.position.ensures.ran (YieldsList-from_slice c.args.text.now cc) (λ x b q k. search (rules, tests)))

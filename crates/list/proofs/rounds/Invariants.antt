@@ -1,16 +1,13 @@
 -- `list::rounds` meets its contract: one record after the other, while a seed and a round remain.
 -- Assumes nothing.
 use Prim.Native.Nat.{◌-◌}
-use mathlib.Core.Path.{◌≡◌}
-use lib.ListN.{length}
-use Rattle.book.specs.Walk.{book_of}
-use Rattle.admit.specs.Admits.{work_words}
+use Rattle.book.specs.Clauses.{meant}
 use Rattle.seek.specs.Paths.{sought_is}
 use Rattle.list.proofs.Adding.{Going}
 use Rattle.list.proofs.rounds.Given as goal
 
 abbrev pub invariant-loop-sought : goal.invariant-loop-sought
-invariant-loop-sought l = Going (book_of l.book) l.initial.records l.count l.most l.records l.written (sought_is l.sought) × (length l.work ≡ work_words)
+invariant-loop-sought l = Going (meant l.book) l.initial.records l.count l.most l.records l.written (sought_is l.sought)
 
 abbrev pub decreases-loop-sought : goal.decreases-loop-sought
 decreases-loop-sought l = l.most - l.written

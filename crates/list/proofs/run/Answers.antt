@@ -3,53 +3,49 @@
 use Prim.Native.Nat.{◌-◌, min}
 use mathlib.Core.Path.{◌≡◌, sym, ap, ◌∙◌}
 use native.Mathlib.Omega.{arith}
-use lib.ListN.{length, take}
 use lib.Seq.{length-take-le}
+use Rattle.std.proofs.lemmas.Result.{err_from_is_err_and}
 use Rattle.field.proofs.Words.{bytes_at}
 use Rattle.book.specs.Walk.{book_of}
+use Rattle.book.specs.Clauses.{meant}
 use Rattle.records.specs.Words.{room, fault}
-use Rattle.admit.specs.Admits.{admitted_is, work_words}
-use Rattle.admit.proofs.Admits.{admit_no, cleared_over}
-use Rattle.list.proofs.Opening.{Opened, open_book, lists_no, lists_tight, lists_goes}
+use Rattle.admit.specs.Admits.{work_words}
+use Rattle.admit.proofs.Admits.{cleared_over}
+use Rattle.list.proofs.Opening.{Opened, opened, lists_no, lists_tight, lists_goes}
 use Rattle.list.proofs.Lists.{told_no, told_listed}
 use Rattle.list.proofs.run.Goals as goal
-use Rattle.list.proofs.run.Goals.{After-limit-last, In-Book}
+use Rattle.list.proofs.run.Goals.{In_ok-book}
 
 -- where the book is accepted and the records are well formed
-opened : (c : In-Book) → let a = c.args in
-    Opened a.book.now a.records.now a.count × (c.in-Book.variables ≡ (book_of a.book.now).variables) × (c.in-Book.groups ≡ (book_of a.book.now).groups)
-    × (c.in-Book.clauses ≡ length (book_of a.book.now).clauses)
-opened c =
-    let a = c.args in
-    open_book _ _ _ _ _ _ (bytes_at a.book.now (λ i. (c.type_inv.book i).fits))
-    (sym (ap admitted_is c.in-Book.is) ∙ c.«open».ensures)
+right : (c : In_ok-book) → let a = c.args in Opened a.bytes.now a.records.now a.count × (book_of a.bytes.now ≡ meant c.in_ok-book.book)
+right c = opened _ _ _ _ (bytes_at c.args.bytes.now (λ i. (c.type_inv.bytes i).fits)) (sym c.in_ok-book.ensures.opened)
+
+pub returns-in_err-book : goal.returns-in_err-book
+returns-in_err-book c =
+    let p = err_from_is_err_and c.from_residual.result c.from_residual.ensures.1 in
+    rw (p.1, p.2) (told_no _ _ _ _ _ _ (lists_no _ _ _ _ _ _ (sym c.in_err-book.ensures.opened)))
 
 pub returns-then-work-lt-WORK_WORDS : goal.returns-then-work-lt-WORK_WORDS
-returns-then-work-lt-WORK_WORDS c = told_no _ _ _ _ _ _ _ (lists_tight _ _ _ (length c.args.work.now) (opened (goal.at.returns-then-work-lt-WORK_WORDS c).In-Book).0.has c.if-work-lt-WORK_WORDS.true)
+returns-then-work-lt-WORK_WORDS c =
+    told_no _ _ _ _ _ _ (simp (c.at.ensures.0, c.at.ensures.1) (lists_tight _ _ _ _ _ (sym c.in_ok-book.ensures.opened) c.if-work-lt-WORK_WORDS.true))
 
-pub limit-last-requires : goal.limit-last-requires
-limit-last-requires c = (opened (goal.at.limit-last-requires c).In-Book).0.few
-
--- what is lent is as long as a call asks
-lent : (c : After-limit-last) → let w = c.args.work.now in length (take work_words w) ≡ work_words
-lent c = length-take-le work_words c.args.work.now c.if-work-lt-WORK_WORDS.false
-
-pub slice_bounds-rounds-end-in-Book : goal.slice_bounds-rounds-end-in-Book
-slice_bounds-rounds-end-in-Book c = sym (lent (goal.at.slice_bounds-rounds-end-in-Book c).After-limit-last)
+pub overflow_sub-left : goal.overflow_sub-left
+overflow_sub-left c = omega (arith, c.room.ensures, (right (goal.at.overflow_sub-left c).In_ok-book).0.few)
 
 pub rounds-listed-requires : goal.rounds-listed-requires
-rounds-listed-requires c = let k = opened (goal.at.rounds-listed-requires c).In-Book in
-    let l = c.limit-last.ensures in
+rounds-listed-requires c =
     let a = c.args in
-    (record { book = k.0.is; variables = k.1; clauses = k.3 }, k.2, lent (goal.at.rounds-listed-requires c).After-limit-last, l.0, l.1, ap (λ g. fault g a.records.now a.count) k.2 ∙ k.0.right)
+    let k = right (goal.at.rounds-listed-requires c).In_ok-book in (
+      length-take-le work_words a.work.now c.if-work-lt-WORK_WORDS.false,
+      omega arith,
+      omega (arith, c.min.ensures, c.room.ensures, k.0.few),
+      ap (λ g. fault g a.records.now a.count) (c.in_ok-book.book.groups_are ∙ ap (λ b. b.groups) (sym k.1)) ∙ k.0.right,
+    )
 
-pub returns-in-Refused : goal.returns-in-Refused
-returns-in-Refused c = told_no _ _ _ _ _ _ _ (lists_no _ _ _ _ _ _ (admit_no _ _ _ (sym (ap admitted_is c.in-Refused.is) ∙ c.«open».ensures)))
-
-pub returns-else-work-lt-WORK_WORDS : goal.returns-else-work-lt-WORK_WORDS
-returns-else-work-lt-WORK_WORDS c = let r = c.rounds-listed in
-    let l = c.limit-last.ensures in
-    let k = opened (goal.at.returns-else-work-lt-WORK_WORDS c).In-Book in
+pub returns : goal.returns
+returns c =
+    let r = c.rounds-listed in
     let a = c.args in
-    told_listed _ (min a.most (room a.records.now - a.count)) _ _ _ _ _ _ _ _ (lists_goes _ _ _ _ k.0.has c.if-work-lt-WORK_WORDS.false) l.2 r.ensures
-    (cleared_over _ r.new.work _ _ (r.auto.work ∙ lent (goal.at.returns-else-work-lt-WORK_WORDS c).After-limit-last) (omega arith) c.clear.ensures)
+    told_listed _ (min a.most (room a.records.now - a.count)) _ _ _ _ _ _ _ _ (lists_goes _ _ _ _ _ (sym c.in_ok-book.ensures.opened) c.if-work-lt-WORK_WORDS.false)
+    (omega (arith, c.min.ensures, c.room.ensures)) r.ensures
+    (cleared_over _ r.new.work _ _ (r.auto.work ∙ length-take-le work_words a.work.now c.if-work-lt-WORK_WORDS.false) (omega arith) c.clear.ensures)

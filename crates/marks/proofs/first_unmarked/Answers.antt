@@ -1,43 +1,25 @@
--- What `marks::first_unmarked` leaves open, from the laws.
-use Prim.Native.Nat.{◌≤◌, ◌-◌}
-use mathlib.Core.Path.{◌≡◌, refl, sym, ◌∙◌}
-use mathlib.Core.Bool.{true}
-use native.Mathlib.Omega.{arith}
-use lib.ListN.{length, take, drop}
-use Rattle.field.specs.Words.{words, within}
-use Rattle.field.proofs.Parts.{part_shorter}
-use Rattle.marks.proofs.Tests.{first_end, first_is, first_next, within_first}
+-- `marks::first_unmarked` meets its contract: it is what `find` finds.
+-- Assumes nothing.
+use Prim.Native.Nat.{◌-◌}
+use mathlib.Core.Path.{sym, ◌∙◌}
+use mathlib.Core.Bool.{not}
+use lib.Dec.{eqb}
+use lib.ListN.{get_or}
+use Rattle.std.proofs.Common.{rules, tests}
+use Rattle.std.proofs.lemmas.Iterator.Adapters.{serves_from_places, option_map_id}
+use Rattle.std.proofs.lemmas.Iterator.Consumers.{YieldsList-from_first}
+use Rattle.std.proofs.lemmas.Iterator.Search.{find_from_yields_List}
+use Rattle.field.specs.Left.{words_left}
+use Rattle.marks.proofs.Tests.{within_at, first_found}
 use Rattle.marks.proofs.first_unmarked.Goals as goal
-use Rattle.marks.proofs.first_unmarked.Goals.{After-word_at-w}
 
--- the first variable that is left is one of the book's, and so are the others
-first : (c : After-word_at-w)
-    → let n = length c.args.marks.now in
-    let t = c.loop-t.t.now in
-    (1 ≤ c.word_at-w.result) × (c.word_at-w.result ≤ n) × (within 1 n (words (take (length t - 2) (drop 2 t))) ≡ true)
-first c = within_first _ _ c.loop-t-test.true c.word_at-w.ensures _ _ c.loop-t.invariant.1
-
-pub loop-t-init : goal.loop-t-init
-loop-t-init c = (refl, c.requires)
-
-pub overflow_sub-i : goal.overflow_sub-i
-overflow_sub-i c = omega (arith, (first c).0)
-
-pub bounds-marks-i : goal.bounds-marks-i
-bounds-marks-i c = omega (arith, (first (goal.at.bounds-marks-i c).After-word_at-w).0, (first (goal.at.bounds-marks-i c).After-word_at-w).1)
-
-pub returns-then-marks-i-ne1 : goal.returns-then-marks-i-ne1
-returns-then-marks-i-ne1 c = let w = (goal.at.returns-then-marks-i-ne1 c).After-word_at-w in
-    sym (c.loop-t.invariant.0 ∙ first_is _ _ c.loop-t-test.true c.word_at-w.ensures _ (first w).0 c.if-marks-i-ne1.true)
-
-pub loop-t-smaller : goal.loop-t-smaller
-loop-t-smaller c = part_shorter c.loop-t.t.now 2 (omega arith) c.loop-t-test.true
-
-pub loop-t-preserved : goal.loop-t-preserved
-loop-t-preserved c = let w = (goal.at.loop-t-preserved c).After-word_at-w in (
-  c.loop-t.invariant.0 ∙ first_next _ _ c.loop-t-test.true c.word_at-w.ensures _ (first w).0 c.if-marks-i-ne1.false,
-  (first w).2,
-)
+pub find-requires-clause-callable : goal.find-requires-clause-callable
+find-requires-clause-callable c =
+    serves_from_places (YieldsList-from_first (λ w. w) words_left {s = c.words_of.result} _ c.words_of.ensures) (λ x q r. search rules) (λ x k l e. search (rules, e, within_at _ _ _ c.requires k x l))
 
 pub returns : goal.returns
-returns c = sym (c.loop-t.invariant.0 ∙ first_end _ _ c.loop-t-test.false)
+returns c =
+    sym (option_map_id c.find.result)
+    ∙ find_from_yields_List (λ w. not (eqb (get_or c.args.marks.now (w - 1) 0) 1)) c.find.new.self _ c.find.result c.find.ensures.ran
+    (YieldsList-from_first (λ w. w) words_left {s = c.words_of.result} _ c.words_of.ensures) (λ x b q k. search (rules, tests))
+    ∙ first_found _ _ c.requires

@@ -1,81 +1,49 @@
--- What `marks::lowest_broken` leaves open, from the laws.
-use mathlib.Core.Path.{refl, sym, ap, ◌∙◌}
+-- `marks::lowest_broken` meets its contract: it is the clause whose place `position` gives.
+-- Assumes nothing.
+use mathlib.Core.Path.{◌≡◌, ap, ◌∙◌}
+use mathlib.Core.Bool.{cond}
+use lib.Dec.{ltb}
+use Rattle.std.specs.Prelude.{None, Some}
+use Rattle.std.specs.List.{position_or_len}
+use mathlib.Core.Logic.{inl}
 use native.Mathlib.Omega.{arith}
 use lib.ListN.{length}
-use Rattle.field.proofs.Parts.{part_shorter}
-use Rattle.book.specs.Walk.{book_of}
-use Rattle.book.proofs.Walk.{Begun, begun, Turn, walk_on, well_formed}
-use Rattle.marks.proofs.Walks.{seeking_none, seeking_found, seeking_next, turn_ready}
+use Rattle.std.proofs.Common.{rules, tests}
+use Rattle.std.proofs.lemmas.Iterator.Adapters.{serves_from_places}
+use Rattle.std.proofs.lemmas.Iterator.Consumers.{YieldsList-from_first}
+use Rattle.std.proofs.lemmas.Iterator.Search.{position_from_yields_List}
+use Rattle.book.specs.Clauses.{meant, clause_is, clauses_left}
+use Rattle.book.proofs.Walk.{found}
+use Rattle.meaning.specs.Forced.{broken}
+use Rattle.marks.proofs.Walks.{fits_at, unbroken_all, broken_first}
 use Rattle.marks.proofs.lowest_broken.Goals as goal
-use Rattle.marks.proofs.lowest_broken.Goals.{After-shared_slice_known-2-1, In-Clause}
+use Rattle.marks.proofs.lowest_broken.Goals.{After-position}
 
--- the book is accepted, so the walk can begin
-start : (c : After-shared_slice_known-2-1) → Begun c.args.book.now
-start c = begun _ c.requires.0
+-- the place that `position` gives
+place : (c : After-position)
+    → let test = broken c.args.choice c.args.marks.now in
+    let all = (meant c.args.book.now).clauses in
+    c.position.result ≡ cond (ltb (position_or_len test all) (length all)) (Some (position_or_len test all)) None
+place c =
+    position_from_yields_List (broken c.args.choice c.args.marks.now) c.position.new.self _ c.position.result c.position.ensures.ran
+    (YieldsList-from_first clause_is clauses_left {s = c.walk.result} _ c.walk.ensures) (λ x b q k. search (rules, tests))
 
--- at a clause
-turn : (c : In-Clause)
-    → let b = book_of c.args.book.now in
-    Turn b.variables b.groups c.loop-groups.rest.now c.loop-groups.invariant.left c.in-Clause.groups c.in-Clause.head c.in-Clause.body c.in-Clause.size
-turn c =
-    walk_on _ _ _ _ _ _ _ _ c.loop-groups.invariant.walk (sym c.front_of.ensures ∙ c.in-Clause.is)
+pub position-requires-clause-callable : goal.position-requires-clause-callable
+position-requires-clause-callable c =
+    serves_from_places (YieldsList-from_first clause_is clauses_left {s = c.walk.result} _ c.walk.ensures) (λ x q r. search rules)
+    (λ x k l e. let w = fits_at _ _ _ (found c.args.book.now) c.requires k l e in search (rules, w.0))
 
-pub slice_bounds-rest-count : goal.slice_bounds-rest-count
-slice_bounds-rest-count c = omega (arith, (start c).long)
+pub position-requires-clause-fits : goal.position-requires-clause-fits
+position-requires-clause-fits c = inl (omega (arith, ap length c.walk.ensures, (found c.args.book.now).clauses))
 
-pub slice_bounds-rest-start : goal.slice_bounds-rest-start
-slice_bounds-rest-start c = omega (arith, (start c).long)
+pub returns-in_err-place : goal.returns-in_err-place
+returns-in_err-place c = c.from_residual.ensures ∙ unbroken_all _ _ _ _ (place (goal.at.returns-in_err-place c).After-position) c.in_err-place.was
 
-pub loop-groups-init : goal.loop-groups-init
-loop-groups-init c = let b = start (goal.at.loop-groups-init c).After-shared_slice_known-2-1 in
-    record { left = (book_of c.args.book.now).clauses; walk = b.walk; so_far = refl; most = omega (arith, b.most) }
+pub overflow_cast-result : goal.overflow_cast-result
+overflow_cast-result c = omega (arith, c.in_ok-place.ensures.bound, ap length c.walk.ensures, (found c.args.book.now).clauses)
 
-pub front_of-requires : goal.front_of-requires
-front_of-requires c = tt
+pub overflow_add-result : goal.overflow_add-result
+overflow_add-result c = omega (arith, c.in_ok-place.ensures.bound, ap length c.walk.ensures, (found c.args.book.now).clauses)
 
-pub returns-in-End : goal.returns-in-End
-returns-in-End c = seeking_none _ _ _ _ _ _ _ c.loop-groups.invariant (sym c.front_of.ensures ∙ c.in-End.is)
-
-pub overflow_sub-last : goal.overflow_sub-last
-overflow_sub-last c = omega (arith, (turn c).before)
-
-pub slice_bounds-is_broken-count : goal.slice_bounds-is_broken-count
-slice_bounds-is_broken-count c = omega (arith, (turn c).before)
-
-pub slice_bounds-is_broken-start : goal.slice_bounds-is_broken-start
-slice_bounds-is_broken-start c = omega (arith, (turn c).before)
-
-pub slice_bounds-is_broken-end : goal.slice_bounds-is_broken-end
-slice_bounds-is_broken-end c = omega (arith, (turn c).before, (turn c).least, (turn c).fits)
-
-pub slice_bounds-is_broken-count-in-Clause : goal.slice_bounds-is_broken-count-in-Clause
-slice_bounds-is_broken-count-in-Clause c = (turn (goal.at.slice_bounds-is_broken-count-in-Clause c).In-Clause).least
-
-pub slice_bounds-is_broken-start-in-Clause : goal.slice_bounds-is_broken-start-in-Clause
-slice_bounds-is_broken-start-in-Clause c = (turn (goal.at.slice_bounds-is_broken-start-in-Clause c).In-Clause).least
-
-pub slice_bounds-is_broken-end-in-Clause : goal.slice_bounds-is_broken-end-in-Clause
-slice_bounds-is_broken-end-in-Clause c = (turn (goal.at.slice_bounds-is_broken-end-in-Clause c).In-Clause).fits
-
-pub is_broken-requires : goal.is_broken-requires
-is_broken-requires c = let k = turn_ready _ _ _ _ _ _ _ _ (turn (goal.at.is_broken-requires c).In-Clause) 32 (well_formed _ c.requires.0).groups in
-    (k.groups, rw c.requires.1 k.body)
-
-pub returns-then-is_broken : goal.returns-then-is_broken
-returns-then-is_broken c = seeking_found _ _ _ _ _ _ _ _ _ _ _ c.loop-groups.invariant (turn (goal.at.returns-then-is_broken c).In-Clause) _ c.is_broken.ensures c.if-is_broken.true
-
-pub slice_bounds-rest-count-in-Clause : goal.slice_bounds-rest-count-in-Clause
-slice_bounds-rest-count-in-Clause c = omega (arith, (turn (goal.at.slice_bounds-rest-count-in-Clause c).In-Clause).fits)
-
-pub slice_bounds-rest-start-in-Clause : goal.slice_bounds-rest-start-in-Clause
-slice_bounds-rest-start-in-Clause c = omega (arith, (turn (goal.at.slice_bounds-rest-start-in-Clause c).In-Clause).fits)
-
-pub overflow_add-k : goal.overflow_add-k
-overflow_add-k c = omega (arith, c.loop-groups.invariant.most, ap length (turn (goal.at.overflow_add-k c).In-Clause).is)
-
-pub loop-groups-smaller : goal.loop-groups-smaller
-loop-groups-smaller c = let t = turn (goal.at.loop-groups-smaller c).In-Clause in
-    part_shorter c.loop-groups.rest.now _ (omega (arith, t.before, t.least)) t.fits
-
-pub loop-groups-preserved : goal.loop-groups-preserved
-loop-groups-preserved c = seeking_next _ _ _ _ _ _ _ _ _ _ _ c.loop-groups.invariant (turn (goal.at.loop-groups-preserved c).In-Clause) _ c.is_broken.ensures c.if-is_broken.false
+pub returns : goal.returns
+returns c = broken_first _ _ _ _ (place (goal.at.returns c).After-position) _ c.in_ok-place.was

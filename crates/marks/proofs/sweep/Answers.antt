@@ -1,81 +1,42 @@
 -- What `marks::sweep` leaves open, from the laws.
-use mathlib.Core.Path.{refl, sym, ◌∙◌}
+-- Assumes nothing.
+use Prim.Native.Nat.{◌+◌}
+use mathlib.Core.Path.{sym, ap, ◌∙◌}
+use mathlib.Core.Bool.{cond}
 use native.Mathlib.Omega.{arith}
-use Rattle.field.proofs.Parts.{part_shorter}
-use Rattle.book.specs.Walk.{book_of}
-use Rattle.book.proofs.Walk.{Begun, begun, Turn, walk_on, well_formed}
+use Rattle.book.specs.Clauses.{clauses_left}
+use Rattle.book.proofs.Walk.{found}
+use Rattle.meaning.specs.Marks.{unmarked}
 use Rattle.meaning.proofs.Marks.{unmarked_le}
-use Rattle.marks.proofs.Walks.{sweeping_end, sweeping_next, turn_ready}
+use Rattle.marks.proofs.Walks.{sweeping_start, sweeping_fits, sweeping_next, sweeping_end}
 use Rattle.marks.proofs.sweep.Goals as goal
-use Rattle.marks.proofs.sweep.Goals.{After-slice_known-1, In-Clause}
 
--- the book is accepted, so the walk can begin
-start : (c : After-slice_known-1) → Begun c.args.book.now
-start c = begun _ c.requires.0
+pub loop-clause-init : goal.loop-clause-init
+loop-clause-init c = sweeping_start _ _ _ (found c.args.book.now) _ (ap clauses_left c.into_iter-clause-iterator.ensures.into_iter_gives ∙ c.walk-clause-items.ensures)
 
--- at a clause
-turn : (c : In-Clause)
-    → let b = book_of c.args.book.now in
-    Turn b.variables b.groups c.loop-groups.rest.now c.loop-groups.invariant.left c.in-Clause.groups c.in-Clause.head c.in-Clause.body c.in-Clause.size
-turn c =
-    walk_on _ _ _ _ _ _ _ _ c.loop-groups.invariant.walk (sym c.front_of.ensures ∙ c.in-Clause.is)
+pub mark_clause-requires-clause-fits : goal.mark_clause-requires-clause-fits
+mark_clause-requires-clause-fits c = (sweeping_fits _ _ _ _ _ _ c.loop-clause.invariant _ _ c.in-Some.ensures.steps (found c.args.book.now) c.requires).0
 
-pub slice_bounds-rest-count : goal.slice_bounds-rest-count
-slice_bounds-rest-count c = omega (arith, (start c).long)
-
-pub slice_bounds-rest-start : goal.slice_bounds-rest-start
-slice_bounds-rest-start c = omega (arith, (start c).long)
-
-pub loop-groups-init : goal.loop-groups-init
-loop-groups-init c = record { left = (book_of c.args.book.now).clauses; walk = (start (goal.at.loop-groups-init c).After-slice_known-1).walk; so_far = refl; long = refl; count = omega arith }
-
-pub front_of-requires : goal.front_of-requires
-front_of-requires c = tt
-
-pub shape_of-marks-in-End : goal.shape_of-marks-in-End
-shape_of-marks-in-End c = c.loop-groups.invariant.long
-
-pub returns-in-End : goal.returns-in-End
-returns-in-End c = sweeping_end _ _ _ _ _ _ _ _ c.loop-groups.invariant (sym c.front_of.ensures ∙ c.in-End.is)
-
-pub overflow_sub-last : goal.overflow_sub-last
-overflow_sub-last c = omega (arith, (turn c).before)
-
-pub slice_bounds-mark_clause-count : goal.slice_bounds-mark_clause-count
-slice_bounds-mark_clause-count c = omega (arith, (turn c).before)
-
-pub slice_bounds-mark_clause-start : goal.slice_bounds-mark_clause-start
-slice_bounds-mark_clause-start c = omega (arith, (turn c).before)
-
-pub slice_bounds-mark_clause-end : goal.slice_bounds-mark_clause-end
-slice_bounds-mark_clause-end c = omega (arith, (turn c).before, (turn c).least, (turn c).fits)
-
-pub slice_bounds-mark_clause-count-in-Clause : goal.slice_bounds-mark_clause-count-in-Clause
-slice_bounds-mark_clause-count-in-Clause c = (turn (goal.at.slice_bounds-mark_clause-count-in-Clause c).In-Clause).least
-
-pub slice_bounds-mark_clause-start-in-Clause : goal.slice_bounds-mark_clause-start-in-Clause
-slice_bounds-mark_clause-start-in-Clause c = (turn (goal.at.slice_bounds-mark_clause-start-in-Clause c).In-Clause).least
-
-pub slice_bounds-mark_clause-end-in-Clause : goal.slice_bounds-mark_clause-end-in-Clause
-slice_bounds-mark_clause-end-in-Clause c = (turn (goal.at.slice_bounds-mark_clause-end-in-Clause c).In-Clause).fits
-
-pub mark_clause-n-requires : goal.mark_clause-n-requires
-mark_clause-n-requires c = let k = turn_ready _ _ _ _ _ _ _ _ (turn (goal.at.mark_clause-n-requires c).In-Clause) 32 (well_formed _ c.requires.0).groups in
-    let long = c.loop-groups.invariant.long ∙ c.requires.1 in
-    (k.groups, omega (arith, k.head, long), rw long k.body)
+pub mark_clause-requires-clause-head : goal.mark_clause-requires-clause-head
+mark_clause-requires-clause-head c = (sweeping_fits _ _ _ _ _ _ c.loop-clause.invariant _ _ c.in-Some.ensures.steps (found c.args.book.now) c.requires).1
 
 pub overflow_add-n : goal.overflow_add-n
-overflow_add-n c = omega (arith, c.loop-groups.invariant.count, c.mark_clause-n.ensures.1, unmarked_le c.args.marks.now, c.requires.1, (well_formed _ c.requires.0).variables)
+overflow_add-n c =
+    let one = ap (λ t. cond t 1 0 + unmarked c.mark_clause.new.marks) (sym c.if-mark_clause.true) ∙ c.mark_clause.ensures.count in
+    omega (arith, c.loop-clause.invariant.count, one, unmarked_le c.args.marks.now, c.requires, (found c.args.book.now).variables)
 
-pub slice_bounds-rest-count-in-Clause : goal.slice_bounds-rest-count-in-Clause
-slice_bounds-rest-count-in-Clause c = omega (arith, (turn (goal.at.slice_bounds-rest-count-in-Clause c).In-Clause).fits)
+pub loop-clause-preserved : goal.loop-clause-preserved
+loop-clause-preserved c =
+    let none = ap (λ t. cond t 1 0 + unmarked c.mark_clause.new.marks) (sym c.if-mark_clause.false) ∙ c.mark_clause.ensures.count in
+    sweeping_next _ _ _ _ _ _ c.loop-clause.invariant _ _ c.in-Some.ensures.steps _ _ c.mark_clause.ensures.marks (omega (arith, none))
 
-pub slice_bounds-rest-start-in-Clause : goal.slice_bounds-rest-start-in-Clause
-slice_bounds-rest-start-in-Clause c = omega (arith, (turn (goal.at.slice_bounds-rest-start-in-Clause c).In-Clause).fits)
+pub loop-clause-preserved-then-mark_clause : goal.loop-clause-preserved-then-mark_clause
+loop-clause-preserved-then-mark_clause c =
+    let one = ap (λ t. cond t 1 0 + unmarked c.mark_clause.new.marks) (sym c.if-mark_clause.true) ∙ c.mark_clause.ensures.count in
+    sweeping_next _ _ _ _ _ _ c.loop-clause.invariant _ _ c.in-Some.ensures.steps _ _ c.mark_clause.ensures.marks (omega (arith, one))
 
-pub loop-groups-smaller : goal.loop-groups-smaller
-loop-groups-smaller c = let t = turn (goal.at.loop-groups-smaller c).In-Clause in
-    part_shorter c.loop-groups.rest.now _ (omega (arith, t.before, t.least)) t.fits
+pub returns-clause-marks : goal.returns-clause-marks
+returns-clause-marks c = (sweeping_end _ _ _ _ _ _ c.loop-clause.invariant c.in-None.ensures.steps.0).0
 
-pub loop-groups-preserved : goal.loop-groups-preserved
-loop-groups-preserved c = sweeping_next _ _ _ _ _ _ _ _ _ _ _ _ c.loop-groups.invariant (turn (goal.at.loop-groups-preserved c).In-Clause) _ _ c.mark_clause-n.ensures.0 c.mark_clause-n.ensures.1
+pub returns-clause-count : goal.returns-clause-count
+returns-clause-count c = (sweeping_end _ _ _ _ _ _ c.loop-clause.invariant c.in-None.ensures.steps.0).1

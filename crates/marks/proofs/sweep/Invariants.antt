@@ -1,12 +1,8 @@
 -- `marks::sweep` meets its contract. The loop's invariant is `Sweeping`, of `Walks.antt`.
 -- Assumes nothing.
-use lib.ListN.{length}
-use Rattle.book.specs.Walk.{book_of}
+use Rattle.book.specs.Clauses.{meant, clauses_left}
 use Rattle.marks.proofs.Walks.{Sweeping}
 use Rattle.marks.proofs.sweep.Given as goal
 
-abbrev pub invariant-loop-groups : goal.invariant-loop-groups
-invariant-loop-groups l = Sweeping (book_of l.book).variables (book_of l.book).groups l.choice (book_of l.book).clauses l.initial.marks l.marks l.rest l.n
-
-abbrev pub decreases-loop-groups : goal.decreases-loop-groups
-decreases-loop-groups l = length l.rest
+abbrev pub invariant-loop-clause : goal.invariant-loop-clause
+invariant-loop-clause l = Sweeping (meant l.book) l.choice l.initial.marks l.marks (clauses_left l.clause-iterator) l.n

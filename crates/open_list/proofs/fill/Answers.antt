@@ -9,5 +9,5 @@ pub returns : goal.returns
 returns c = (
   c.widen.ensures.0 ∙ c.number.ensures.0,
   omega (arith, c.widen.ensures.0, c.widen.ensures.1 32 (omega arith), c.number.ensures.1, c.capped-n.ensures),
-  λ i h. (i, h, c.widen.ensures.1 (33 + i) (omega arith) ∙ c.number.ensures.2 i (omega (arith, h, c.capped-n.ensures))),
+  λ i h. (i, h, c.widen.ensures.1 (33 + i) (omega arith) ∙ c.number.ensures.2 i (omega arith)),
 )

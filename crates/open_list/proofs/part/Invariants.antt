@@ -6,6 +6,3 @@ use Rattle.open_list.proofs.part.Given as goal
 
 abbrev pub invariant-loop-k : goal.invariant-loop-k
 invariant-loop-k l = (l.k ≤ l.m) × (l.m ≤ l.n) × Keeps l.n l.initial.list l.list
-
-abbrev pub decreases-loop-k : goal.decreases-loop-k
-decreases-loop-k l = l.k

@@ -1,43 +1,32 @@
--- `path::advance` meets its contract.
--- Assumes nothing.
-use Prim.Native.Nat.{ℕ}
-use mathlib.Core.Path.{sym, ◌∙◌, subst}
-use native.Mathlib.Omega.{arith}
-use Rattle.path.proofs.Paths.{bars_explanation, bars_repair, parts_swap}
-use Rattle.path.proofs.Pressing.{explanation_shut, explanation_open, repair_shut, repair_open}
-use Rattle.path.specs.Paths.{Fits, Bars, Pressing}
-use Rattle.records.specs.Words.{records_of}
-use Rattle.path.specs.declared.Pressed.{Pressed}
+-- What `path::advance` leaves open, from the laws.
+use Rattle.std.proofs.Common.{Some, Ok}
+use Rattle.std.proofs.lemmas.Result.{err_from_is_err_and}
+use Rattle.path.proofs.Paths.{barred, bars_record, free_fits}
+use Rattle.path.proofs.Pressing.{record_shut, record_last}
+use Rattle.path.specs.Paths.{Leaves, Bars, Pressing}
 use Rattle.path.proofs.advance.Goals as goal
+use Rattle.path.proofs.advance.Goals.{After-press, In-Some}
 
-pub set_at-set-requires : goal.set_at-set-requires
-set_at-set-requires c = omega (arith, c.requires.0, c.requires.1)
+-- what the record bars
+bars : (c : After-press) → Bars (Leaves c.args.listed) c.record_at-record.result.set (barred c.record_at-record.result.kind)
+bars c = let l = c.args.listed in
+    bars_record l.groups l.records.now l.count c.args.i c.requires.0 c.record_at-record.result.kind c.record_at-record.result.set c.record_at-record.ensures
 
-pub kind_at-requires : goal.kind_at-requires
-kind_at-requires c = omega (arith, c.requires.0, c.requires.1)
+-- what was pressed, where the last group goes to the other side
+last : (c : In-Some)
+    → Pressing c.args.listed.groups c.record_at-record.result.set c.against-side.result c.args.sides.free c.args.why.now (Ok (Some c.in-Some.group)) c.press.new.why
+last c = rw c.in-Some.is at c.in_ok-last.ensures
 
-pub press-requires : goal.press-requires
-press-requires c = (c.requires.2, c.requires.3, c.requires.4)
+pub returns-in_err-last : goal.returns-in_err-last
+returns-in_err-last c = let p = err_from_is_err_and c.from_residual.result c.from_residual.ensures.1 in let l = c.args.listed in let r = c.record_at-record.result in
+    rw (p.1, p.2) (record_shut l.groups (Leaves l) r.set c.args.sides c.args.why.now c.press.new.why c.requires.2 r.kind c.against-side.result c.against-side.ensures
+    (bars (goal.at.returns-in_err-last c).After-press) _ c.in_err-last.ensures)
 
-pub press-requires-else-kind_at-eq-EXPLANATION : goal.press-requires-else-kind_at-eq-EXPLANATION
-press-requires-else-kind_at-eq-EXPLANATION c = (c.requires.2, c.requires.3, parts_swap _ _ _ _ c.requires.4)
+pub decide-requires : goal.decide-requires
+decide-requires c = let l = c.args.listed in
+    free_fits l.groups c.args.sides.taken c.args.sides.left c.args.sides.free c.requires.2 c.in-Some.group (last (goal.at.decide-requires c).In-Some).0.is_free l.in_word
 
-pub returns-in-Shut : goal.returns-in-Shut
-returns-in-Shut c = let B = subst (λ (x : ℕ). Bars (Fits c.args.groups (records_of c.args.records.now c.args.count)) x 1) (sym c.set_at-set.ensures) (bars_explanation c.args.groups c.args.records.now c.args.count c.args.i c.requires.1 (sym c.kind_at.ensures ∙ c.if-kind_at-eq-EXPLANATION.true)) in
-    explanation_shut c.args.groups _ c.set_at-set.result c.args.taken c.args.left c.args.free c.args.why.now _ c.requires.4 c.requires.3 B _
-    (subst (λ (r : Pressed). Pressing c.args.groups c.set_at-set.result c.args.taken c.args.left c.args.free c.args.why.now r c.press.new.why) c.in-Shut.is c.press.ensures)
-
-pub returns-in-Open : goal.returns-in-Open
-returns-in-Open c = let B = subst (λ (x : ℕ). Bars (Fits c.args.groups (records_of c.args.records.now c.args.count)) x 1) (sym c.set_at-set.ensures) (bars_explanation c.args.groups c.args.records.now c.args.count c.args.i c.requires.1 (sym c.kind_at.ensures ∙ c.if-kind_at-eq-EXPLANATION.true)) in
-    explanation_open c.args.groups _ c.set_at-set.result c.args.taken c.args.left c.args.free c.args.why.now _ c.requires.4 c.requires.3 B _ _
-    (subst (λ (r : Pressed). Pressing c.args.groups c.set_at-set.result c.args.taken c.args.left c.args.free c.args.why.now r c.press.new.why) c.in-Open.is c.press.ensures)
-
-pub returns-in-Shut-press : goal.returns-in-Shut-press
-returns-in-Shut-press c = let B = subst (λ (x : ℕ). Bars (Fits c.args.groups (records_of c.args.records.now c.args.count)) x 0) (sym c.set_at-set.ensures) (bars_repair c.args.groups c.args.records.now c.args.count c.args.i c.requires.1 (λ e. c.if-kind_at-eq-EXPLANATION.false (c.kind_at.ensures ∙ e))) in
-    repair_shut c.args.groups _ c.set_at-set.result c.args.taken c.args.left c.args.free c.args.why.now _ c.requires.4 c.requires.3 B _
-    (subst (λ (r : Pressed). Pressing c.args.groups c.set_at-set.result c.args.left c.args.taken c.args.free c.args.why.now r c.press-else-kind_at-eq-EXPLANATION.new.why) c.in-Shut-press.is c.press-else-kind_at-eq-EXPLANATION.ensures)
-
-pub returns-in-Open-press : goal.returns-in-Open-press
-returns-in-Open-press c = let B = subst (λ (x : ℕ). Bars (Fits c.args.groups (records_of c.args.records.now c.args.count)) x 0) (sym c.set_at-set.ensures) (bars_repair c.args.groups c.args.records.now c.args.count c.args.i c.requires.1 (λ e. c.if-kind_at-eq-EXPLANATION.false (c.kind_at.ensures ∙ e))) in
-    repair_open c.args.groups _ c.set_at-set.result c.args.taken c.args.left c.args.free c.args.why.now _ c.requires.4 c.requires.3 B _ _
-    (subst (λ (r : Pressed). Pressing c.args.groups c.set_at-set.result c.args.left c.args.taken c.args.free c.args.why.now r c.press-else-kind_at-eq-EXPLANATION.new.why) c.in-Open-press.is c.press-else-kind_at-eq-EXPLANATION.ensures)
+pub returns-in-Some : goal.returns-in-Some
+returns-in-Some c = let l = c.args.listed in let r = c.record_at-record.result in
+    rw c.decide.ensures (record_last l.groups (Leaves l) r.set c.args.sides c.args.why.now c.press.new.why c.requires.2 r.kind c.against-side.result c.against-side.ensures
+    (bars (goal.at.returns-in-Some c).After-press) c.in-Some.group c.requires.1 (last (goal.at.returns-in-Some c).In-Some))

@@ -4,7 +4,6 @@ use mathlib.Core.Path.{sym, subst}
 use native.Mathlib.Omega.{arith}
 use lib.Bits.{bit_or}
 use lib.ListN.{get_or}
-use lib.Pow.{pow_pos}
 use Rattle.rounds.proofs.Digits.{pow_le}
 use Rattle.path.proofs.Pressing.{Gathering, gather_start, gather_step, gather_end}
 use Rattle.path.proofs.gather.Goals as goal
@@ -12,20 +11,8 @@ use Rattle.path.proofs.gather.Goals as goal
 pub loop-rest-init : goal.loop-rest-init
 loop-rest-init c = (c.requires.2, gather_start _ _ _)
 
-pub highest-g-requires : goal.highest-g-requires
-highest-g-requires c = (c.requires.0, c.loop-rest.invariant.0, c.loop-rest-test.true)
-
-pub bounds-why-i : goal.bounds-why-i
-bounds-why-i c = omega (arith, c.highest-g.ensures.0, c.requires.1)
-
-pub bit-rest-requires : goal.bit-rest-requires
-bit-rest-requires c = omega (arith, c.highest-g.ensures.0, c.requires.0)
-
 pub overflow_sub-rest : goal.overflow_sub-rest
 overflow_sub-rest c = omega (arith, c.bit-rest.ensures, pow_le c.loop-rest.rest c.highest-g.result c.highest-g.ensures.1.in_it)
-
-pub loop-rest-smaller : goal.loop-rest-smaller
-loop-rest-smaller c = omega (arith, c.bit-rest.ensures, pow_pos c.highest-g.result, pow_le c.loop-rest.rest c.highest-g.result c.highest-g.ensures.1.in_it)
 
 pub loop-rest-preserved : goal.loop-rest-preserved
 loop-rest-preserved c = (

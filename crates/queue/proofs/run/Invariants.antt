@@ -1,10 +1,7 @@
--- `queue::run` meets its contract. The loop's invariant: the space is kept. The measure is how many turns are left.
+-- `queue::run` meets its contract. The loop's invariant: the space is kept.
 -- Assumes nothing.
 use Rattle.table.specs.Table.{Kept}
 use Rattle.queue.proofs.run.Given as goal
 
-abbrev pub invariant-loop-left : goal.invariant-loop-left
-invariant-loop-left l = Kept l.book l.kept l.pool l.initial.work l.work
-
-abbrev pub decreases-loop-left : goal.decreases-loop-left
-decreases-loop-left l = l.left
+abbrev pub invariant-loop : goal.invariant-loop
+invariant-loop l = Kept l.book.bytes.now l.arrivals.kept l.arrivals.pool l.initial.work l.work

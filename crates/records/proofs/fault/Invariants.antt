@@ -1,6 +1,6 @@
 -- `records::fault` meets its contract. No word before i is faulty.
 -- Assumes nothing.
-use Prim.Native.Nat.{◌-◌, ◌≤◌}
+use Prim.Native.Nat.{◌-◌}
 use mathlib.Core.Path.{◌≡◌}
 use lib.ListN.{get_or}
 use Rattle.records.specs.Words.{faulty, fault}
@@ -8,7 +8,4 @@ use Rattle.rounds.specs.Rounds.{first_from}
 use Rattle.records.proofs.fault.Given as goal
 
 abbrev pub invariant-loop-i : goal.invariant-loop-i
-invariant-loop-i l = (l.i ≤ l.words) × (fault l.groups l.records l.count ≡ first_from (λ j. faulty l.groups j (get_or l.records j 0)) (l.words - l.i) l.i)
-
-abbrev pub decreases-loop-i : goal.decreases-loop-i
-decreases-loop-i l = l.words - l.i
+invariant-loop-i l = fault l.groups l.records l.count ≡ first_from (λ j. faulty l.groups j (get_or l.records j 0)) (l.words - l.i) l.i

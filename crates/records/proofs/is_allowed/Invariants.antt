@@ -1,6 +1,6 @@
 -- `records::is_allowed` meets its contract. The records before i leave the choice.
 -- Assumes nothing.
-use Prim.Native.Nat.{ℕ, ◌-◌, ◌≤◌, ◌<◌}
+use Prim.Native.Nat.{ℕ, ◌<◌}
 use mathlib.Core.Path.{◌≡◌}
 use mathlib.Core.Bool.{true}
 use Rattle.records.specs.Words.{kind_at, set_at, record_from}
@@ -8,7 +8,4 @@ use Rattle.rounds.specs.Records.{allows}
 use Rattle.records.proofs.is_allowed.Given as goal
 
 abbrev pub invariant-loop-i : goal.invariant-loop-i
-invariant-loop-i l = (l.i ≤ l.count) × ((j : ℕ) → j < l.i → allows (record_from (kind_at l.records j) (set_at l.records j)) l.choice ≡ true)
-
-abbrev pub decreases-loop-i : goal.decreases-loop-i
-decreases-loop-i l = l.count - l.i
+invariant-loop-i l = (j : ℕ) → j < l.i → allows (record_from (kind_at l.records j) (set_at l.records j)) l.choice ≡ true

@@ -1,29 +1,24 @@
 -- What `report::put_groups` leaves open, from the laws.
+use mathlib.Core.Path.{◌≡◌, sym, ap, ◌∙◌, subst}
 use native.Mathlib.Omega.{arith}
-use Rattle.answer.proofs.Spaces.{writing_start, writing_room, writing_length, writing_next, writing_end}
-use Rattle.report.proofs.Digits.{groups_more}
-use Rattle.report.proofs.Putting.{member_room, groups_end}
+use Prim.Native.Nat.{◌-◌}
+use lib.Count.{count_leading_zeros}
+use Rattle.answer.proofs.Spaces.{Writing, writing_start, writing_room, writing_next, writing_end}
+use Rattle.report.specs.Text.{numbers, groups_of}
+use Rattle.report.proofs.Digits.{left, left_all, left_more, left_room, left_none}
 use Rattle.report.proofs.put_groups.Goals as goal
 
-pub loop-rest-init : goal.loop-rest-init
-loop-rest-init c = (writing_start _ _ _, omega arith)
+pub loop-group-init : goal.loop-group-init
+loop-group-init c = subst (λ (xs : _). Writing (numbers (groups_of c.args.set)) c.args.out.now c.args.at c.args.out.now c.args.at xs) (sym (left_all c.args.set)) (writing_start _ _ _)
 
 pub put_member-i-requires : goal.put_member-i-requires
-put_member-i-requires c = let l = c.loop-rest in
-    omega (arith, writing_room _ _ _ _ _ _ l.invariant.0 c.requires, member_room l.group l.rest c.loop-rest-test.true)
+put_member-i-requires c = let l = c.loop-group in
+    (omega arith, omega (arith, writing_room _ _ _ _ _ _ l.invariant c.requires, left_room c.args.set l.group))
 
-pub overflow_add-group : goal.overflow_add-group
-overflow_add-group c = omega (arith, c.loop-rest.invariant.1, c.ranges.set)
-
-pub loop-rest-smaller : goal.loop-rest-smaller
-loop-rest-smaller c = omega (arith, c.loop-rest-test.true)
-
-pub loop-rest-preserved : goal.loop-rest-preserved
-loop-rest-preserved c = let l = c.loop-rest in
-    (writing_next _ _ _ _ _ _ l.invariant.0 _ _ _ _ (groups_more l.group l.rest c.loop-rest-test.true) c.put_member-i.ensures, omega (arith, l.invariant.1, c.loop-rest-test.true))
-
-pub shape_of-out : goal.shape_of-out
-shape_of-out c = writing_length _ _ _ _ _ _ c.loop-rest.invariant.0
+pub loop-group-preserved : goal.loop-group-preserved
+loop-group-preserved c = writing_next _ _ _ _ _ _ c.loop-group.invariant _ _ _ _ (left_more _ _) c.put_member-i.ensures
 
 pub returns : goal.returns
-returns c = writing_end _ _ _ _ _ _ c.loop-rest.invariant.0 (groups_end _ _ c.loop-rest-test.false)
+returns c =
+    let e : c.loop-group.group ≡ 32 - count_leading_zeros 32 c.args.set = omega arith in
+    writing_end _ _ _ _ _ _ c.loop-group.invariant (ap (left c.args.set) e ∙ left_none c.args.set c.ranges.set.fits)

@@ -1,13 +1,10 @@
 -- `report::put_records` meets its contract. The lines of the records before k are written.
 -- Assumes nothing.
-use Prim.Native.Nat.{◌+◌, ◌*◌, ◌-◌, ◌≤◌}
+use Prim.Native.Nat.{◌+◌, ◌*◌, ◌≤◌}
 use Rattle.answer.specs.Space.{Wrote}
 use Rattle.records.specs.Words.{records_of}
 use Rattle.report.specs.Text.{record_lines}
 use Rattle.report.proofs.put_records.Given as goal
 
 abbrev pub invariant-loop-k : goal.invariant-loop-k
-invariant-loop-k l = Wrote l.initial.out l.at (record_lines (records_of l.records l.k)) l.out l.i × (l.k ≤ l.count) × (l.i ≤ l.at + 104 * l.k)
-
-abbrev pub decreases-loop-k : goal.decreases-loop-k
-decreases-loop-k l = l.count - l.k
+invariant-loop-k l = Wrote l.initial.out l.at (record_lines (records_of l.records l.k)) l.out l.i × (l.i ≤ l.at + 104 * l.k)

@@ -3,4 +3,4 @@
 use Rattle.seek.proofs.+search.Given as goal
 
 abbrev pub decreases-search : goal.decreases-search
-decreases-search l = l.free
+decreases-search l = l.before.sides.free

@@ -1,28 +1,21 @@
--- `seek::seek` meets its contract.
--- Assumes nothing.
-use mathlib.Core.Path.{◌≡◌, sym, subst}
+-- What `seek::seek` leaves open, from the laws.
+use mathlib.Core.Path.{sym, subst}
 use native.Mathlib.Omega.{arith}
-use Rattle.rounds.specs.Rounds.{seed}
-use Rattle.records.specs.Words.{records_of}
 use Rattle.path.specs.Paths.{Parts}
-use Rattle.seek.proofs.Below.{starts_parts, starts_reasons, seeks_seed}
-use Rattle.seek.specs.Paths.{sought_is}
-use Rattle.seek.specs.declared.Sought.{Sought}
+use Rattle.seek.proofs.Below.{starts_parts, starts_reasons, seeks_seed, seeks_none}
 use Rattle.seek.proofs.seek.Goals as goal
 
 pub search-requires : goal.search-requires
 search-requires c = (
-  c.requires.0,
-  c.requires.1,
   c.requires.1,
   subst (Parts c.args.groups 0 0) (sym c.all.ensures) (starts_parts c.args.groups),
   starts_reasons _ _,
-  omega (arith, c.listed-n.ensures, c.fill.ensures.0, c.requires.2),
+  omega (arith, c.listed.ensures, c.fill.ensures.0, c.requires.2),
   omega (arith, c.fill.ensures.0, c.requires.3),
 )
 
-pub returns-in-Nothing : goal.returns-in-Nothing
-returns-in-Nothing c = subst (λ (r : Sought). sought_is r ≡ seed c.args.groups (records_of c.args.records.now c.args.count)) c.in-Nothing.is (seeks_seed _ _ _ c.search.ensures.0)
+pub returns-in-Ok : goal.returns-in-Ok
+returns-in-Ok c = seeks_seed _ _ _ c.in-Ok.ensures.0
 
-pub returns-in-At : goal.returns-in-At
-returns-in-At c = subst (λ (r : Sought). sought_is r ≡ seed c.args.groups (records_of c.args.records.now c.args.count)) c.in-At.is (seeks_seed _ _ _ c.search.ensures.0)
+pub returns-in-Err : goal.returns-in-Err
+returns-in-Err c = seeks_none _ _ _ c.in-Err.ensures.0

@@ -1,99 +1,52 @@
 -- What `table::lay_clauses` leaves open, from the laws.
-use mathlib.Core.Path.{sym, ◌∙◌}
+use Prim.Native.Nat.{◌≤◌}
+use mathlib.Core.Path.{◌∙◌}
 use native.Mathlib.Omega.{arith}
-use lib.ListN.{drop, length-set}
-use Rattle.field.proofs.Parts.{part_shorter}
-use Rattle.book.specs.Bytes.{most_groups}
-use Rattle.book.specs.Walk.{book_of}
-use Rattle.book.proofs.Walk.{Begun, begun, Turn, walk_on, well_formed}
-use Rattle.marks.proofs.Walks.{turn_ready}
-use Rattle.table.proofs.Stores.{body_within}
-use Rattle.table.proofs.Laying.{laying_start, laying_end, laying_more, laying_next}
+use Rattle.book.specs.Clauses.{clause_is}
+use Rattle.book.proofs.Walk.{is_book}
+use Rattle.marks.specs.Fits.{Fits}
+use Rattle.lists.proofs.Stores.{aside_as}
+use Rattle.table.proofs.Places.{here_fits}
+use Rattle.table.proofs.Laying.{laying_start, laying_here, laying_inside, laying_fits, laying_next}
 use Rattle.table.proofs.lay_clauses.Goals as goal
-use Rattle.table.proofs.lay_clauses.Goals.{After-slice_known-1, In-Clause}
+use Rattle.table.proofs.lay_clauses.Goals.{After-first_clause-clause}
 
--- the book is accepted, so the walk can begin
-start : (c : After-slice_known-1) → Begun c.args.book.now
-start c = begun _ c.requires.0.book
+-- the clause at hand
+fits : (c : After-first_clause-clause) → let v = c.of-layout.result.variables in let k = clause_is c.first_clause-clause.result in Fits v k × (k.head ≤ v)
+fits c = let b = c.args.book.now in
+    here_fits _ _ _ (laying_here _ _ _ _ _ c.loop-number.invariant c.loop-number-test.true) (is_book _ b.accepted) _ (c.of-layout.ensures.variables ∙ b.variables_are)
+    _ c.first_clause-clause.ensures.clause
 
--- at a clause
-turn : (c : In-Clause)
-    → let b = book_of c.args.book.now in
-    Turn b.variables b.groups c.loop-groups.rest.now (drop c.loop-groups.clause b.clauses) c.in-Clause.groups c.in-Clause.head c.in-Clause.body c.in-Clause.size
-turn c = walk_on _ _ _ _ _ _ _ _ c.loop-groups.invariant.walk (sym c.front_of.ensures ∙ c.in-Clause.is)
+pub loop-number-init : goal.loop-number-init
+loop-number-init c = laying_start _ _
 
-pub slice_bounds-rest-count : goal.slice_bounds-rest-count
-slice_bounds-rest-count c = omega (arith, (start c).long)
+pub slice_bounds-first_clause-count : goal.slice_bounds-first_clause-count
+slice_bounds-first_clause-count c = (laying_inside _ _ _ _ _ c.loop-number.invariant).0
 
-pub slice_bounds-rest-start : goal.slice_bounds-rest-start
-slice_bounds-rest-start c = omega (arith, (start c).long)
+pub slice_bounds-first_clause-start : goal.slice_bounds-first_clause-start
+slice_bounds-first_clause-start c = (laying_inside _ _ _ _ _ c.loop-number.invariant).0
 
-pub loop-groups-init : goal.loop-groups-init
-loop-groups-init c = laying_start _ _ _ _ c.requires.0 c.requires.1
-
-pub front_of-requires : goal.front_of-requires
-front_of-requires c = tt
-
-pub shape_of-work-in-End : goal.shape_of-work-in-End
-shape_of-work-in-End c = c.loop-groups.invariant.long
-
-pub returns-in-End : goal.returns-in-End
-returns-in-End c = laying_end _ _ _ _ _ _ _ _ c.loop-groups.invariant (sym c.front_of.ensures ∙ c.in-End.is)
-
-pub overflow_sub-last : goal.overflow_sub-last
-overflow_sub-last c = omega (arith, (turn c).before)
+pub first_clause-clause-requires : goal.first_clause-clause-requires
+first_clause-clause-requires c = let k = (laying_here _ _ _ _ _ c.loop-number.invariant c.loop-number-test.true).stands in (k.long, k.fits)
 
 pub overflow_cast-work : goal.overflow_cast-work
-overflow_cast-work c = omega (arith, c.loop-groups.invariant.inside, c.loop-groups.invariant.short)
+overflow_cast-work c = omega (arith, laying_inside _ _ _ _ _ c.loop-number.invariant)
 
-pub bounds-work-entry : goal.bounds-work-entry
-bounds-work-entry c = let m = laying_more _ _ _ _ _ _ _ _ c.loop-groups.invariant _ _ _ _ (turn c) in omega (arith, m, c.loop-groups.invariant.small, c.loop-groups.invariant.room, c.loop-groups.invariant.long)
+pub begin-requires-clause-fits : goal.begin-requires-clause-fits
+begin-requires-clause-fits c = (fits (goal.at.begin-requires-clause-fits c).After-first_clause-clause).0
 
-pub slice_bounds-begin-count : goal.slice_bounds-begin-count
-slice_bounds-begin-count c = omega (arith, (turn c).before)
+pub begin-requires-clause-head : goal.begin-requires-clause-head
+begin-requires-clause-head c = (fits (goal.at.begin-requires-clause-head c).After-first_clause-clause).1
 
-pub slice_bounds-begin-start : goal.slice_bounds-begin-start
-slice_bounds-begin-start c = omega (arith, (turn c).before)
-
-pub slice_bounds-begin-end : goal.slice_bounds-begin-end
-slice_bounds-begin-end c = omega (arith, (turn c).before, (turn c).least, (turn c).fits)
-
-pub slice_bounds-begin-count-in-Clause : goal.slice_bounds-begin-count-in-Clause
-slice_bounds-begin-count-in-Clause c = (turn (goal.at.slice_bounds-begin-count-in-Clause c).In-Clause).least
-
-pub slice_bounds-begin-start-in-Clause : goal.slice_bounds-begin-start-in-Clause
-slice_bounds-begin-start-in-Clause c = (turn (goal.at.slice_bounds-begin-start-in-Clause c).In-Clause).least
-
-pub slice_bounds-begin-end-in-Clause : goal.slice_bounds-begin-end-in-Clause
-slice_bounds-begin-end-in-Clause c = (turn (goal.at.slice_bounds-begin-end-in-Clause c).In-Clause).fits
-
-pub begin-requires : goal.begin-requires
-begin-requires c = let t = turn (goal.at.begin-requires c).In-Clause in
-    let l = c.loop-groups.invariant in
-    let k = turn_ready _ _ _ _ _ _ _ _ t most_groups (well_formed _ l.size.book).groups in (
-      laying_more _ _ _ _ _ _ _ _ l _ _ _ _ t,
-      k.groups,
-      omega (arith, k.head, l.size.variables),
-      body_within _ _ _ l.size _ k.body,
-      record { small = l.small; long = simp length-set (omega (arith, l.room, l.long)) },
-    )
+pub size-place-requires : goal.size-place-requires
+size-place-requires c = let l = c.loop-number.invariant in
+    omega (arith, c.first_clause-clause.ensures.size, laying_inside _ _ _ _ _ l, laying_fits _ _ _ _ _ l c.loop-number-test.true)
 
 pub overflow_add-place : goal.overflow_add-place
-overflow_add-place c = omega (arith, c.loop-groups.invariant.inside, c.loop-groups.invariant.short, (turn (goal.at.overflow_add-place c).In-Clause).most)
+overflow_add-place c = let l = c.loop-number.invariant in
+    omega (arith, c.size-place.ensures, c.first_clause-clause.ensures.size, laying_inside _ _ _ _ _ l, laying_fits _ _ _ _ _ l c.loop-number-test.true)
 
-pub overflow_add-clause : goal.overflow_add-clause
-overflow_add-clause c = let l = c.loop-groups.invariant in
-    omega (arith, laying_more _ _ _ _ _ _ _ _ l _ _ _ _ (turn (goal.at.overflow_add-clause c).In-Clause), l.small)
-
-pub slice_bounds-rest-count-in-Clause : goal.slice_bounds-rest-count-in-Clause
-slice_bounds-rest-count-in-Clause c = (turn (goal.at.slice_bounds-rest-count-in-Clause c).In-Clause).fits
-
-pub slice_bounds-rest-start-in-Clause : goal.slice_bounds-rest-start-in-Clause
-slice_bounds-rest-start-in-Clause c = omega (arith, (turn (goal.at.slice_bounds-rest-start-in-Clause c).In-Clause).fits)
-
-pub loop-groups-smaller : goal.loop-groups-smaller
-loop-groups-smaller c = part_shorter c.loop-groups.rest.now _ (omega (arith, (turn (goal.at.loop-groups-smaller c).In-Clause).before, (turn (goal.at.loop-groups-smaller c).In-Clause).least)) (turn (goal.at.loop-groups-smaller c).In-Clause).fits
-
-pub loop-groups-preserved : goal.loop-groups-preserved
-loop-groups-preserved c = let l = c.loop-groups in
-    laying_next _ _ _ _ _ l.rest.now _ _ l.invariant _ _ _ _ (turn (goal.at.loop-groups-preserved c).In-Clause) _ c.begin.ensures
+pub loop-number-preserved : goal.loop-number-preserved
+loop-number-preserved c = let layout = c.of-layout.ensures in
+    laying_next _ _ _ _ _ c.loop-number.invariant c.requires c.loop-number-test.true _ (omega (arith, c.entry.ensures, layout.variables))
+    _ (c.size-place.ensures ∙ c.first_clause-clause.ensures.size) _ (aside_as _ _ _ _ _ _ layout.variables layout.clauses c.begin.ensures)

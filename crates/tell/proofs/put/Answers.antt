@@ -1,6 +1,5 @@
 -- A number below 2 ^ 64 has at most twenty digits, and they are what is printed.
 use Rattle.std.proofs.Common.{arith, subst}
-use Rattle.decimal.specs.Digits.{number}
 use Rattle.decimal.proofs.Digits.{number_length}
 use Rattle.streams.specs.Streams.{Prints}
 use Rattle.tell.proofs.Fronts.{front_wrote}

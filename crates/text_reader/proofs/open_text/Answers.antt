@@ -1,49 +1,47 @@
 -- What `text_reader::open_text` leaves open, from the laws.
-use mathlib.Core.Path.{sym, ◌∙◌}
+use mathlib.Core.Path.{◌≡◌, sym, ap, ◌∙◌}
 use native.Mathlib.Omega.{arith}
-use lib.Seq.{length-take-le}
-use Rattle.field.proofs.Parts.{part_shorter}
-use Rattle.text_reader.proofs.Turns.{Turn, turn}
+use lib.ListN.{length}
+use Rattle.std.specs.Prelude.{Some}
+use Rattle.line.specs.Starts.{start_of}
+use Rattle.text_reader.specs.Steps.{line_in}
+use Rattle.text_reader.proofs.Turns.{after_shorter}
 use Rattle.text_reader.proofs.Openings.{seeking_start, seeking_skipped, seeking_heading, seeking_clause, seeking_formless, seeking_end}
 use Rattle.text_reader.proofs.open_text.Goals as goal
-use Rattle.text_reader.proofs.open_text.Goals.{After-past-next}
+use Rattle.text_reader.proofs.open_text.Goals.{After-start_of}
 
--- the next line
-line : (c : After-past-next) → Turn c.loop-t.t.now c.line_length-n.result c.past-next.result
-line c = turn _ _ _ c.loop-t-test.true c.line_length-n.ensures c.past-next.ensures
+-- what the next line begins as
+begins : (c : After-start_of) → start_of (line_in c.loop-first.rest.now) ≡ c.start_of.result
+begins c = ap start_of (sym c.in-Some.ensures.0) ∙ sym c.start_of.ensures
 
-pub loop-t-init : goal.loop-t-init
-loop-t-init c = seeking_start _
+pub loop-first-init : goal.loop-first-init
+loop-first-init c = seeking_start _
 
-pub slice_bounds-first-end : goal.slice_bounds-first-end
-slice_bounds-first-end c = sym (length-take-le _ c.loop-t.t.now (line c).short)
+pub returns-in-Some-Heading : goal.returns-in-Some-Heading
+returns-in-Some-Heading c =
+    c.open_heading.ensures
+    ∙ rw (← c.in-Some.ensures.1) at (seeking_heading _ c.loop-first.rest.now _ c.loop-first.invariant c.in-Some.ensures.2 _
+    (begins (goal.at.returns-in-Some-Heading c).After-start_of ∙ c.in-Some-Heading.is ∙ ap Some c.in-Some-Heading.field-0-is))
 
-pub slice_bounds-t-count : goal.slice_bounds-t-count
-slice_bounds-t-count c = (line c).inside
+pub returns-in-Some-Clause : goal.returns-in-Some-Clause
+returns-in-Some-Clause c =
+    simp (c.at.ensures.0, c.at.ensures.1)
+    (seeking_clause _ c.loop-first.rest.now _ c.loop-first.invariant c.in-Some.ensures.2 _ _
+    (begins (goal.at.returns-in-Some-Clause c).After-start_of ∙ c.in-Some-Clause.is ∙ ap Some c.in-Some-Clause.field-0-is))
 
-pub slice_bounds-t-start : goal.slice_bounds-t-start
-slice_bounds-t-start c = omega (arith, (line c).inside)
+pub returns-in-None : goal.returns-in-None
+returns-in-None c =
+    simp (c.at-in-None.ensures.0, c.at-in-None.ensures.1)
+    (seeking_formless _ c.loop-first.rest.now _ c.loop-first.invariant c.in-Some.ensures.2 (begins (goal.at.returns-in-None c).After-start_of ∙ c.in-None.is))
 
-pub overflow_add-at : goal.overflow_add-at
-overflow_add-at c = omega (arith, (line (goal.at.overflow_add-at c).After-past-next).inside, c.loop-t.invariant.place, c.well_formed)
+pub loop-first-smaller : goal.loop-first-smaller
+loop-first-smaller c = omega (arith, after_shorter c.loop-first.rest.now c.in-Some.ensures.2, ap length c.in-Some.ensures.1)
 
-pub overflow_add-line : goal.overflow_add-line
-overflow_add-line c = omega (arith, c.loop-t.invariant.number, c.loop-t.invariant.place, c.well_formed)
-
-pub loop-t-smaller : goal.loop-t-smaller
-loop-t-smaller c = let u = line (goal.at.loop-t-smaller c).After-past-next in part_shorter c.loop-t.t.now _ u.some u.inside
-
-pub loop-t-preserved : goal.loop-t-preserved
-loop-t-preserved c = seeking_skipped _ c.loop-t.t.now _ _ c.loop-t.invariant _ _ (line (goal.at.loop-t-preserved c).After-past-next) (sym c.start_of.ensures ∙ c.in-Skipped.is)
-
-pub returns-in-Heading : goal.returns-in-Heading
-returns-in-Heading c = c.open_heading.ensures ∙ seeking_heading _ c.loop-t.t.now _ _ c.loop-t.invariant _ _ (line (goal.at.returns-in-Heading c).After-past-next) _ _ _ (sym c.start_of.ensures ∙ c.in-Heading.is)
-
-pub returns-in-Clause : goal.returns-in-Clause
-returns-in-Clause c = seeking_clause _ c.loop-t.t.now _ _ c.loop-t.invariant _ _ (line (goal.at.returns-in-Clause c).After-past-next) _ _ (sym c.start_of.ensures ∙ c.in-Clause.is)
-
-pub returns-in-Formless : goal.returns-in-Formless
-returns-in-Formless c = seeking_formless _ c.loop-t.t.now _ _ c.loop-t.invariant _ _ (line (goal.at.returns-in-Formless c).After-past-next) (sym c.start_of.ensures ∙ c.in-Formless.is)
+pub loop-first-preserved : goal.loop-first-preserved
+loop-first-preserved c =
+    rw c.in-Some.ensures.1
+    (seeking_skipped _ c.loop-first.rest.now _ c.loop-first.invariant c.in-Some.ensures.2
+    (begins (goal.at.loop-first-preserved c).After-start_of ∙ c.in-Some-Skipped.is ∙ ap Some c.in-Some-Skipped.field-0-is))
 
 pub returns : goal.returns
-returns c = seeking_end _ _ _ _ c.loop-t.invariant c.loop-t-test.false
+returns c = simp (c.at-2.ensures.0, c.at-2.ensures.1) (seeking_end _ _ _ c.loop-first.invariant c.in_default.ensures)

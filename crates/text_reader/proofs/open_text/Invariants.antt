@@ -4,8 +4,8 @@ use lib.ListN.{length}
 use Rattle.text_reader.proofs.Openings.{Seeking}
 use Rattle.text_reader.proofs.open_text.Given as goal
 
-abbrev pub invariant-loop-t : goal.invariant-loop-t
-invariant-loop-t l = Seeking l.text l.t l.at l.line
+abbrev pub invariant-loop-first : goal.invariant-loop-first
+invariant-loop-first l = Seeking l.text l.rest l.line
 
-abbrev pub decreases-loop-t : goal.decreases-loop-t
-decreases-loop-t l = length l.t
+abbrev pub decreases-loop-first : goal.decreases-loop-first
+decreases-loop-first l = length l.rest

@@ -6,8 +6,9 @@ use Rattle.text_reader.specs.Steps.{clauses_of}
 use Rattle.text_reader.proofs.Copying.{Copying}
 use Rattle.text_reader.proofs.put_clauses.Given as goal
 
-abbrev pub invariant-loop-t : goal.invariant-loop-t
-invariant-loop-t l = Copying l.variables l.groups (clauses_of l.variables l.groups l.rest) l.initial.out l.out l.t l.left l.at × (length l.body ≡ 33)
+abbrev pub invariant-loop-first : goal.invariant-loop-first
+invariant-loop-first l =
+    record { copying : Copying l.variables l.groups (clauses_of l.variables l.groups l.clauses) l.initial.out l.out l.rest l.left l.at; words : length l.body ≡ 33 }
 
-abbrev pub decreases-loop-t : goal.decreases-loop-t
-decreases-loop-t l = length l.t
+abbrev pub decreases-loop-first : goal.decreases-loop-first
+decreases-loop-first l = length l.rest

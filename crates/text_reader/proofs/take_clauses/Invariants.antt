@@ -5,8 +5,9 @@ use lib.ListN.{length}
 use Rattle.text_reader.proofs.Passing.{Passing}
 use Rattle.text_reader.proofs.take_clauses.Given as goal
 
-abbrev pub invariant-loop-t : goal.invariant-loop-t
-invariant-loop-t l = Passing l.variables l.clauses l.groups l.opened l.rest l.t l.line l.left l.size × (length l.body ≡ 33)
+abbrev pub invariant-loop-first : goal.invariant-loop-first
+invariant-loop-first l =
+    record { passing : Passing l.heading.variables l.heading.clauses l.heading.groups l.opened l.clauses l.rest l.line l.left l.length; words : length l.body ≡ 33 }
 
-abbrev pub decreases-loop-t : goal.decreases-loop-t
-decreases-loop-t l = length l.t
+abbrev pub decreases-loop-first : goal.decreases-loop-first
+decreases-loop-first l = length l.rest

@@ -1,41 +1,52 @@
 -- `text_reader::write_rest` meets its contract: all is known before anything is written, so a refusal leaves the space as it came.
 -- Assumes nothing.
-use mathlib.Core.Path.{sym, ◌∙◌}
+use mathlib.Core.Path.{◌≡◌, sym, ◌∙◌}
 use native.Mathlib.Omega.{arith}
-use Rattle.writer.proofs.Books.{taken_refused, put_refused, put_long, put_short}
+use lib.ListN.{length}
+use Rattle.std.proofs.Common.{rules}
+use Rattle.std.proofs.lemmas.Result.{err_from_is_err_and}
+use Rattle.answer.specs.Answer.{first}
+use Rattle.answer.proofs.Refusals.{right_where, cause_where}
+use Rattle.writer.specs.Steps.{room_tests}
+use Rattle.writer.proofs.Books.{taken_refused, put_refused, put_wrong, put_room}
 use Rattle.text_reader.proofs.Whole.{Took, took, took_room, took_written}
 use Rattle.text_reader.proofs.write_rest.Goals as goal
-use Rattle.text_reader.proofs.write_rest.Goals.{In-Book}
+use Rattle.text_reader.proofs.write_rest.Goals.{In_ok-taken, In_ok-map_err}
 
--- where the lines are taken
-book : (c : In-Book)
-    → let a = c.args in
-    Took a.clauses a.opened a.rest.now a.variables a.groups c.in-Book.variables c.in-Book.groups c.in-Book.length
-book c = took _ _ _ _ _ _ _ _ (sym c.in-Book.is ∙ c.take_clauses.ensures)
+-- where the lines are taken, and the book fits
+book_is : (c : In_ok-taken) → Took c.args.heading.clauses c.args.opened c.args.rest.now c.args.heading.variables c.args.heading.groups c.in_ok-taken.taken
+book_is c = took _ _ _ _ _ _ c.in_ok-taken.ensures
 
-pub returns-then-length-gt-MOST_BYTES : goal.returns-then-length-gt-MOST_BYTES
-returns-then-length-gt-MOST_BYTES c = let k = book (goal.at.returns-then-length-gt-MOST_BYTES c).In-Book in put_long _ _ _ k.is (omega (arith, c.if-length-gt-MOST_BYTES.true, k.length_is))
+room : (c : In_ok-map_err) → first (room_tests (length c.args.out.now) c.in_ok-taken.taken.length) ≡ 0
+room c = sym c.test_room.ensures ∙ right_where _ c.in_ok-map_err.ensures.variant
 
-pub returns-then-out-length : goal.returns-then-out-length
-returns-then-out-length c = let k = book (goal.at.returns-then-out-length c).In-Book in put_short _ _ _ k.is (omega (arith, c.if-length-gt-MOST_BYTES.false, k.length_is)) (omega (arith, c.if-out-length.true, k.length_is))
+pub returns-in_err-taken : goal.returns-in_err-taken
+returns-in_err-taken c =
+    let p = err_from_is_err_and c.from_residual.result c.from_residual.ensures.1 in
+    rw (p.1, p.2) (put_refused _ _ _ (taken_refused _ _ _ c.in_err-taken.ensures))
+
+pub returns-in_err-map_err : goal.returns-in_err-map_err
+returns-in_err-map_err c =
+    let k = book_is (goal.at.returns-in_err-map_err c).In_ok-taken in
+    let r = c.from_residual-in_err-map_err in
+    let p = err_from_is_err_and r.result r.ensures.1 in
+    let q = cause_where c.test_room.result c.in_err-map_err.field-0.0 0 _ c.in_err-map_err.ensures.cases (λ e h. search rules) in
+    rw (p.1, p.2) (put_wrong _ _ _ k.is _ k.length_is _ (sym q.0 ∙ c.test_room.ensures) q.1)
 
 pub put_header-requires : goal.put_header-requires
-put_header-requires c = let k = book (goal.at.put_header-requires c).In-Book in omega (arith, c.if-out-length.false, took_room _ _ _ _ _ _ _ _ k)
+put_header-requires c =
+    let k = book_is (goal.at.put_header-requires c).In_ok-taken in
+    omega (arith, put_room _ c.args.out.now _ k.is _ k.length_is (room (goal.at.put_header-requires c).In_ok-map_err), k.length_is, took_room _ _ _ _ _ _ k)
 
 pub put_clauses-count-requires : goal.put_clauses-count-requires
 put_clauses-count-requires c =
-    let k = book (goal.at.put_clauses-count-requires c).In-Book in
+    let k = book_is (goal.at.put_clauses-count-requires c).In_ok-taken in
+    let fits = put_room _ c.args.out.now _ k.is _ k.length_is (room (goal.at.put_clauses-count-requires c).In_ok-map_err) in
     let p = c.requires in
     record {
       variables_bound = (omega (arith, k.same, p), omega (arith, k.same, p), k.are);
-      rest_in_bounds = omega (arith, c.if-out-length.false, took_room _ _ _ _ _ _ _ _ k, c.put_header.auto.out);
+      rest_in_bounds = omega (arith, fits, k.length_is, took_room _ _ _ _ _ _ k);
     }
 
-pub returns-in-Refused : goal.returns-in-Refused
-returns-in-Refused c = put_refused _ _ _ _ (taken_refused _ _ _ (sym c.in-Refused.is ∙ c.take_clauses.ensures))
-
-pub shape_of-out : goal.shape_of-out
-shape_of-out c = c.put_clauses-count.auto.out ∙ c.put_header.auto.out
-
-pub returns-else-out-length : goal.returns-else-out-length
-returns-else-out-length c = took_written _ _ _ _ _ _ _ _ (book (goal.at.returns-else-out-length c).In-Book) c.args.out.now c.if-length-gt-MOST_BYTES.false c.if-out-length.false _ _ _ _ c.put_header.ensures c.put_clauses-count.ensures
+pub returns : goal.returns
+returns c = took_written _ _ _ _ _ _ (book_is (goal.at.returns c).In_ok-taken) c.args.out.now (room (goal.at.returns c).In_ok-map_err) _ _ _ _ c.put_header.ensures c.put_clauses-count.ensures

@@ -2,28 +2,34 @@
 -- Assumes nothing.
 use native.Mathlib.Omega.{arith}
 use Prim.Native.Nat.{◌+◌, ◌≤◌}
+use mathlib.Core.Path.{◌≡◌}
 use lib.ListN.{length}
-use Rattle.decimal.specs.Digits.{number}
-use Rattle.decimal.proofs.Digits.{number_length}
+use Rattle.book.specs.Clauses.{meant}
+use Rattle.book.proofs.Walk.{found}
+use Rattle.text.specs.Writing.{heading_text}
+use Rattle.text.proofs.Written.{text_length, text_most}
+use Rattle.text_writer.proofs.Putting.{heading_numbers}
 use Rattle.text_writer.proofs.heading_length.Goals as goal
 use Rattle.text_writer.proofs.heading_length.Goals.{After-number_length-c}
 
--- two bytes hold no number of more than five digits
-short : (c : After-number_length-c)
-    → length (number c.args.variables) + length (number c.args.clauses) + length (number c.args.groups) ≤ 15
-short c =
-    omega (
-      arith,
-      number_length 4 c.args.variables (omega (arith, c.ranges.variables)),
-      number_length 4 c.args.clauses (omega (arith, c.ranges.clauses)),
-      number_length 4 c.args.groups (omega (arith, c.ranges.groups)),
+-- the sum, and its bound
+sum : (c : After-number_length-c)
+    → let b = meant c.args.book.now in
+    (c.number_length-a.result + c.number_length-b.result + c.number_length-c.result + 10 ≡ length (heading_text b)) × (length (heading_text b) ≤ 420000)
+sum c =
+    let b = c.args.book.now in (
+      omega (arith, heading_numbers (meant b) _ _ _ b.variables_are b.clauses_are b.groups_are, c.number_length-a.ensures, c.number_length-b.ensures, c.number_length-c.ensures),
+      omega (arith, text_length (meant b), text_most (meant b) (found b)),
     )
 
 pub overflow_add-result : goal.overflow_add-result
-overflow_add-result c = omega (arith, short c, c.number_length-a.ensures, c.number_length-b.ensures)
+overflow_add-result c = omega (arith, sum c)
 
 pub overflow_add-result-2 : goal.overflow_add-result-2
-overflow_add-result-2 c = omega (arith, short c, c.number_length-a.ensures, c.number_length-b.ensures, c.number_length-c.ensures)
+overflow_add-result-2 c = omega (arith, sum c)
 
 pub overflow_add-result-3 : goal.overflow_add-result-3
-overflow_add-result-3 c = omega (arith, short c, c.number_length-a.ensures, c.number_length-b.ensures, c.number_length-c.ensures)
+overflow_add-result-3 c = omega (arith, sum c)
+
+pub returns : goal.returns
+returns c = (sum c).0

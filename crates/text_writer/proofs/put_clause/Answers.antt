@@ -1,6 +1,7 @@
 -- `text_writer::put_clause` meets its contract: four runs of stores, one after the other.
 -- Assumes nothing.
 use Prim.Native.Nat.{◌+◌, ◌≤◌}
+use mathlib.Core.Path.{sym}
 use native.Mathlib.Omega.{arith}
 use lib.ListN.{length}
 use Rattle.answer.proofs.Spaces.{wrote_length}
@@ -8,28 +9,28 @@ use Rattle.field.specs.Words.{words}
 use Rattle.decimal.specs.Digits.{number}
 use Rattle.text.specs.Writing.{body_text, head_text}
 use Rattle.text.proofs.Written.{group_length}
-use Rattle.text_writer.proofs.Putting.{first_group, clause_size, clause_wrote}
+use Rattle.text_writer.proofs.Putting.{clause_size, clause_wrote}
 use Rattle.text_writer.proofs.put_clause.Goals as goal
-use Rattle.text_writer.proofs.put_clause.Goals.{After-word_at-group}
+use Rattle.text_writer.proofs.put_clause.Goals.{After-group_of}
 
 -- there is room for each part
-fits : (c : After-word_at-group)
-    → let a = c.args in
-    a.at + (length (number c.word_at-group.result) + length (body_text (words a.body.now)) + length (head_text a.head) + 5) ≤ length a.out.now
-fits c =
-    omega (arith, c.requires.body_in_bounds, clause_size (words c.args.groups.now) c.args.head (words c.args.body.now) _ (first_group _ _ c.requires.in_bounds c.word_at-group.ensures))
+fits : (c : After-group_of)
+    → let k = c.args.clause.now in
+    c.args.at + (length (number c.group_of.result) + length (body_text (words k.body.now)) + length (head_text k.head) + 5) ≤ length c.args.out.now
+fits c = let k = c.args.clause.now in
+    omega (arith, c.requires, clause_size (words k.groups.now) k.head (words k.body.now) _ (sym c.group_of.ensures))
 
 pub put_group-a-requires : goal.put_group-a-requires
-put_group-a-requires c = omega (arith, fits (goal.at.put_group-a-requires c).After-word_at-group)
+put_group-a-requires c = omega (arith, fits (goal.at.put_group-a-requires c).After-group_of)
 
 pub put_body-b-requires : goal.put_body-b-requires
 put_body-b-requires c = let g = c.put_group-a.ensures in
-    omega (arith, fits (goal.at.put_body-b-requires c).After-word_at-group, g.place, group_length c.word_at-group.result, wrote_length _ _ _ _ _ g)
+    omega (arith, fits (goal.at.put_body-b-requires c).After-group_of, g.place, group_length c.group_of.result, wrote_length _ _ _ _ _ g)
 
 pub put_head-c-requires : goal.put_head-c-requires
 put_head-c-requires c = let g = c.put_group-a.ensures in
     let w = c.put_body-b.ensures in
-    omega (arith, fits (goal.at.put_head-c-requires c).After-word_at-group, g.place, group_length c.word_at-group.result, wrote_length _ _ _ _ _ g, w.place, wrote_length _ _ _ _ _ w)
+    omega (arith, fits (goal.at.put_head-c-requires c).After-group_of, g.place, group_length c.group_of.result, wrote_length _ _ _ _ _ g, w.place, wrote_length _ _ _ _ _ w)
 
 pub put_text-requires : goal.put_text-requires
 put_text-requires c = let g = c.put_group-a.ensures in
@@ -37,9 +38,9 @@ put_text-requires c = let g = c.put_group-a.ensures in
     let h = c.put_head-c.ensures in
     omega (
       arith,
-      fits (goal.at.put_text-requires c).After-word_at-group,
+      fits (goal.at.put_text-requires c).After-group_of,
       g.place,
-      group_length c.word_at-group.result,
+      group_length c.group_of.result,
       wrote_length _ _ _ _ _ g,
       w.place,
       wrote_length _ _ _ _ _ w,
@@ -48,5 +49,5 @@ put_text-requires c = let g = c.put_group-a.ensures in
     )
 
 pub returns : goal.returns
-returns c = clause_wrote _ _ _ _ _ _ _ _ _ _ _ _ _ _ (first_group _ _ c.requires.in_bounds c.word_at-group.ensures)
+returns c = clause_wrote _ _ _ _ _ _ _ _ _ _ _ _ _ _ (sym c.group_of.ensures)
     c.put_group-a.ensures c.put_body-b.ensures c.put_head-c.ensures c.put_text.ensures

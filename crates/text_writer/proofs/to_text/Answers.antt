@@ -1,57 +1,42 @@
 -- `text_writer::to_text` meets its contract: the length is known before anything is written, so a refusal leaves the space as it came.
 -- Assumes nothing.
-use Prim.Native.Nat.{◌+◌}
-use mathlib.Core.Path.{◌≡◌, sym, ap, ◌∙◌}
+use mathlib.Core.Path.{◌≡◌, ap}
 use native.Mathlib.Omega.{arith}
-use lib.ListN.{length}
+use Rattle.answer.specs.Answer.{answered}
 use Rattle.answer.proofs.Spaces.{wrote_length}
-use Rattle.field.proofs.Words.{bytes_at}
-use Rattle.book.specs.Check.{checked_is}
-use Rattle.book.specs.Walk.{book_of}
-use Rattle.book.proofs.Walk.{well_formed}
-use Rattle.book.proofs.Checks.{check_refused, Accepted, check_book}
-use Rattle.text.specs.Writing.{text_of}
-use Rattle.text.proofs.Written.{text_most}
-use Rattle.text_writer.proofs.Putting.{heading_place}
-use Rattle.text_writer.proofs.Texts.{whole_length, text_refused, text_short, text_written}
+use Rattle.std.proofs.lemmas.Result.{err_from_is_err_and}
+use Rattle.book.specs.Clauses.{meant}
+use Rattle.book.specs.Reading.{reading}
+use Rattle.book.proofs.Checks.{check_refused}
+use Rattle.book.proofs.Walk.{reads_as}
+use Rattle.text.proofs.Written.{text_length}
+use Rattle.text_writer.proofs.Texts.{text_refused, text_short, text_written}
 use Rattle.text_writer.proofs.to_text.Goals as goal
-use Rattle.text_writer.proofs.to_text.Goals.{After-clauses_length, In-Book}
+use Rattle.text_writer.proofs.to_text.Goals.{In_ok-book}
 
 -- where `check` accepts
-book_is : (c : In-Book)
-    → Accepted c.args.book.now c.in-Book.variables c.in-Book.groups c.in-Book.clauses
-book_is c =
-    check_book _ _ _ _ (bytes_at c.args.book.now (λ i. (c.type_inv.book i).fits)) (sym (ap checked_is c.in-Book.is) ∙ c.check.ensures)
+accepted : (c : In_ok-book) → reading c.args.bytes.now ≡ answered (meant c.in_ok-book.book)
+accepted c = reads_as c.in_ok-book.book _ (ap (λ r. r.now) c.in_ok-book.ensures.same)
 
--- the length that is found is the text's
-length_is : (c : After-clauses_length)
-    → c.heading_length.result + c.clauses_length.result ≡ length (text_of (book_of c.args.book.now))
-length_is c =
-    let k = (check_book _ _ _ _ (bytes_at c.args.book.now (λ i. (c.type_inv.book i).fits)) (sym (ap checked_is c.in-Book.is) ∙ c.check.ensures)) in
-    omega (arith, whole_length (book_of c.args.book.now) _ _ _ k.variables k.groups k.clauses, c.heading_length.ensures, c.clauses_length.ensures)
+pub returns-in_err-book : goal.returns-in_err-book
+returns-in_err-book c =
+    let p = err_from_is_err_and c.from_residual.result c.from_residual.ensures.1 in
+    rw (p.1, p.2) (text_refused _ _ _ (check_refused _ _ _ c.in_err-book.ensures.checked))
 
-pub clauses_length-requires : goal.clauses_length-requires
-clauses_length-requires c = (book_is (goal.at.clauses_length-requires c).In-Book).is
+pub returns-then-out-text_length : goal.returns-then-out-text_length
+returns-then-out-text_length c =
+    text_short _ _ (meant c.in_ok-book.book) (accepted (goal.at.returns-then-out-text_length c).In_ok-book) _ c.at.ensures.0 c.at.ensures.1
+    (omega (arith, c.if-out-text_length.true, c.text_length.ensures))
 
-pub overflow_add-n : goal.overflow_add-n
-overflow_add-n c = omega (arith, length_is c, text_most _ (well_formed _ (book_is (goal.at.overflow_add-n c).In-Book).is))
+pub put_heading-at-requires : goal.put_heading-at-requires
+put_heading-at-requires c = omega (arith, c.if-out-text_length.false, c.text_length.ensures, text_length (meant c.in_ok-book.book))
 
-pub returns-then-out-n : goal.returns-then-out-n
-returns-then-out-n c = let k = book_is (goal.at.returns-then-out-n c).In-Book in
-    text_short _ _ _ _ k.variables k.groups k.clauses _ _ k.is.read (omega (arith, length_is (goal.at.returns-then-out-n c).After-clauses_length, c.if-out-n.true))
-
-pub put_clauses-count-requires : goal.put_clauses-count-requires
-put_clauses-count-requires c =
+pub put_clauses-requires : goal.put_clauses-requires
+put_clauses-requires c =
     let w = c.put_heading-at.ensures in
-    record {
-      book = (book_is (goal.at.put_clauses-count-requires c).In-Book).is;
-      book_in_bounds = omega (arith, heading_place _ _ _ _ _ _ w, wrote_length _ _ _ _ _ w, c.heading_length.ensures, c.clauses_length.ensures, c.if-out-n.false);
-    }
+    omega (arith, c.if-out-text_length.false, c.text_length.ensures, text_length (meant c.in_ok-book.book), w.place, wrote_length _ _ _ _ _ w)
 
-pub returns-in-Refused : goal.returns-in-Refused
-returns-in-Refused c = text_refused _ _ _ _ (check_refused _ _ _ (sym (ap checked_is c.in-Refused.is) ∙ c.check.ensures))
-
-pub returns-else-out-n : goal.returns-else-out-n
-returns-else-out-n c = let k = book_is (goal.at.returns-else-out-n c).In-Book in
-    text_written _ _ _ _ k.variables k.groups k.clauses _ _ k.is.read _ _ _ _ (omega (arith, length_is (goal.at.returns-else-out-n c).After-clauses_length, c.if-out-n.false))
-    c.put_heading-at.ensures c.put_clauses-count.ensures
+pub returns : goal.returns
+returns c =
+    text_written _ _ (meant c.in_ok-book.book) (accepted (goal.at.returns c).In_ok-book) _ _ _ _ (omega (arith, c.if-out-text_length.false, c.text_length.ensures))
+    c.put_heading-at.ensures c.put_clauses.ensures

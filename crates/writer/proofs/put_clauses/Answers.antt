@@ -1,122 +1,85 @@
 -- What `writer::put_clauses` leaves open, from the laws.
-use Prim.Native.Nat.{◌+◌, ◌-◌}
-use mathlib.Core.Path.{◌≡◌, sym, ◌∙◌}
+use Prim.Native.Nat.{◌+◌}
+use mathlib.Core.Path.{◌≡◌, sym, ap}
 use native.Mathlib.Omega.{arith}
+use lib.ListN.{length}
 use lib.Seq.{length-take-le}
-use Rattle.field.proofs.Parts.{part_shorter, part_length}
-use Rattle.writer.specs.Steps.{book_from}
-use Rattle.answer.proofs.Spaces.{writing_length}
-use Rattle.writer.proofs.Firsts.{tail, tail_length}
-use Rattle.writer.proofs.Copying.{Copy, copy, copy_none, copy_room, copy_next, copy_last, copy_end}
+use mir.Syntax.{w32}
+use mir.Val.{SFits}
+use Rattle.std.proofs.Common.{rules}
+use Rattle.std.proofs.lemmas.Int.{to_z-of_z}
+use Rattle.answer.specs.Answer.{answered}
+use Rattle.field.proofs.Parts.{part_shorter}
 use Rattle.plain.specs.Taking.{literals_at}
-use Rattle.writer.specs.Steps.{scan_of}
-use Rattle.writer.specs.declared.Scan.TheVariants as ScanV
+use Rattle.writer.specs.Steps.{scan_of, book_from}
+use Rattle.writer.proofs.Copying.{Copy, copy, copy_scanned, copy_room, copy_next, copy_last, copy_end}
 use Rattle.writer.proofs.Whole.{Ready, ready}
 use Rattle.writer.proofs.put_clauses.Goals as goal
-use Rattle.writer.proofs.put_clauses.Goals.{After-slice_known-1, In-Closed}
+use Rattle.writer.proofs.put_clauses.Goals.{Start, After-scan_clause, After-unwrap-scanned}
 
 -- the plain form is taken, so writing can begin
-begin : (c : After-slice_known-1) → Ready c.args.plain.now c.args.variables c.args.out.now
+begin : (c : Start) → Ready c.args.plain.now c.args.variables c.args.out.now
 begin c = ready _ _ _ c.requires.plain c.requires.variables_value
 
--- at a clause
-found : (c : In-Closed)
-    → ScanV.Closed c.in-Closed.head c.in-Closed.count c.in-Closed.next ≡ scan_of 0 (literals_at c.args.variables 0 0 0 (c.loop-t.i + 1) (tail c.loop-t.t.now))
-found c = sym c.in-Closed.is ∙ c.scan_clause.ensures
+-- what the scan found, and the clause at hand
+found : (c : After-unwrap-scanned) → answered c.unwrap-scanned.result ≡ scan_of 0 (literals_at c.args.variables 0 0 0 (c.loop-group.place + 1) c.in-Some.literals.now)
+found c = rw c.unwrap-scanned.ensures at c.scan_clause.ensures
 
-at : (c : In-Closed)
-    → let l = c.loop-t in
-    Copy c.args.variables (book_from c.args.plain.now).groups l.t.now l.i l.invariant.left c.in-Closed.head c.in-Closed.count c.in-Closed.next
-at c = copy _ _ _ _ _ _ c.loop-t.t.now _ _ c.loop-t.invariant c.loop-t-test.true _ _ _ (found c)
+at : (c : After-unwrap-scanned)
+    → Copy c.args.variables (book_from c.args.plain.now).groups c.in-Some.group.now c.in-Some.literals.now c.loop-group.place c.loop-group.invariant.left c.unwrap-scanned.result
+at c = copy _ _ _ _ _ _ c.loop-group.rest.now _ _ c.loop-group.invariant _ _ c.in-Some.ensures.cases.0 _ (found c)
 
-pub slice_bounds-t-count : goal.slice_bounds-t-count
-slice_bounds-t-count c = omega (arith, (begin c).long)
+pub slice_bounds-rest-count : goal.slice_bounds-rest-count
+slice_bounds-rest-count c = omega (arith, (begin (goal.at.slice_bounds-rest-count c).Start).long)
 
-pub slice_bounds-t-start : goal.slice_bounds-t-start
-slice_bounds-t-start c = omega (arith, (begin c).long)
+pub slice_bounds-rest-start : goal.slice_bounds-rest-start
+slice_bounds-rest-start c = omega (arith, (begin (goal.at.slice_bounds-rest-start c).Start).long)
 
-pub loop-t-init : goal.loop-t-init
-loop-t-init c = (begin (goal.at.loop-t-init c).After-slice_known-1).start
+pub loop-group-init : goal.loop-group-init
+loop-group-init c = (begin (goal.at.loop-group-init c).Start).start
 
-pub slice_bounds-scan_clause-count : goal.slice_bounds-scan_clause-count
-slice_bounds-scan_clause-count c = omega (arith, c.loop-t-test.true)
+pub unwrap-scanned-requires : goal.unwrap-scanned-requires
+unwrap-scanned-requires c =
+    let k = copy_scanned _ _ _ _ _ _ c.loop-group.rest.now _ _ c.loop-group.invariant _ _ c.in-Some.ensures.cases.0 _ c.scan_clause.ensures in
+    simp k.1
 
-pub slice_bounds-scan_clause-start : goal.slice_bounds-scan_clause-start
-slice_bounds-scan_clause-start c = omega (arith, c.loop-t-test.true)
+pub overflow_sub-rest : goal.overflow_sub-rest
+overflow_sub-rest c = let k = at (goal.at.overflow_sub-rest c).After-unwrap-scanned in omega (arith, k.above, k.inside, ap length c.in-Some.ensures.cases.0)
 
-pub overflow_add-i : goal.overflow_add-i
-overflow_add-i c = omega (arith, c.loop-t.invariant.place, c.well_formed)
+pub offset_bounds-rest-scanned : goal.offset_bounds-rest-scanned
+offset_bounds-rest-scanned c = let k = at (goal.at.offset_bounds-rest-scanned c).After-unwrap-scanned in
+    omega (arith, k.above, k.inside, ap length c.in-Some.ensures.cases.0, c.loop-group.invariant.place, c.well_formed)
 
-pub scan_clause-requires : goal.scan_clause-requires
-scan_clause-requires c = omega (arith, c.loop-t.invariant.place, c.well_formed, tail_length c.loop-t.t.now c.loop-t-test.true)
+pub slice_bounds-rest-count-in-Some : goal.slice_bounds-rest-count-in-Some
+slice_bounds-rest-count-in-Some c = let k = at (goal.at.slice_bounds-rest-count-in-Some c).After-unwrap-scanned in omega (arith, k.above, k.inside, ap length c.in-Some.ensures.cases.0)
 
-pub shape_of-out-in-Wrong : goal.shape_of-out-in-Wrong
-shape_of-out-in-Wrong c = writing_length _ _ _ _ _ _ c.loop-t.invariant.writing
+pub slice_bounds-rest-start-in-Some : goal.slice_bounds-rest-start-in-Some
+slice_bounds-rest-start-in-Some c = let k = at (goal.at.slice_bounds-rest-start-in-Some c).After-unwrap-scanned in omega (arith, k.above, k.inside, ap length c.in-Some.ensures.cases.0)
 
-pub returns-in-Wrong : goal.returns-in-Wrong
-returns-in-Wrong c = absurd (copy_none _ _ _ _ _ _ c.loop-t.t.now _ _ c.loop-t.invariant c.loop-t-test.true _ _ (sym c.in-Wrong.is ∙ c.scan_clause.ensures))
-
-pub overflow_cast-end : goal.overflow_cast-end
-overflow_cast-end c = omega (arith, (at c).few)
-
-pub overflow_add-end : goal.overflow_add-end
-overflow_add-end c = omega (arith, (at c).few, (at c).long)
-
-pub slice_bounds-put_clause-count : goal.slice_bounds-put_clause-count
-slice_bounds-put_clause-count c = omega (arith, (at c).few, (at c).long)
-
-pub slice_bounds-put_clause-start : goal.slice_bounds-put_clause-start
-slice_bounds-put_clause-start c = omega (arith, (at c).few, (at c).long)
-
-pub slice_bounds-put_clause-end : goal.slice_bounds-put_clause-end
-slice_bounds-put_clause-end c = omega (arith, (at c).few, (at c).long)
-
-pub slice_bounds-put_clause-count-in-Closed : goal.slice_bounds-put_clause-count-in-Closed
-slice_bounds-put_clause-count-in-Closed c = omega (arith, (at (goal.at.slice_bounds-put_clause-count-in-Closed c).In-Closed).long)
-
-pub slice_bounds-put_clause-start-in-Closed : goal.slice_bounds-put_clause-start-in-Closed
-slice_bounds-put_clause-start-in-Closed c = omega (arith, (at (goal.at.slice_bounds-put_clause-start-in-Closed c).In-Closed).long)
-
-pub slice_bounds-put_clause-end-in-Closed : goal.slice_bounds-put_clause-end-in-Closed
-slice_bounds-put_clause-end-in-Closed c = omega (arith, (at (goal.at.slice_bounds-put_clause-end-in-Closed c).In-Closed).long)
+pub slice_bounds-body-end : goal.slice_bounds-body-end
+slice_bounds-body-end c = let k = at (goal.at.slice_bounds-body-end c).After-unwrap-scanned in sym (length-take-le _ _ (omega (arith, k.long)))
 
 pub put_clause-at-requires : goal.put_clause-at-requires
 put_clause-at-requires c =
-    let k = at (goal.at.put_clause-at-requires c).In-Closed in
-    let l = c.loop-t in
-    let n = c.in-Closed.count in
+    let a = (goal.at.put_clause-at-requires c).After-unwrap-scanned in
+    let k = at a in
     record {
-      body_len_bound = omega (arith, length-take-le 1 l.t.now (omega (arith, k.long)), part_length l.t.now 1 (1 + n - 1) (omega (arith, k.long)), k.few);
-      body_in_bounds = copy_room _ _ _ _ _ _ l.t.now _ _ l.invariant c.loop-t-test.true _ _ _ (found (goal.at.put_clause-at-requires c).In-Closed) c.requires.plain_in_bounds;
+      body_len_bound = simp c.from.ensures (omega (arith, length-take-le _ _ k.long, k.few));
+      body_in_bounds = simp c.from.ensures (copy_room _ _ _ _ _ _ c.loop-group.rest.now _ _ c.loop-group.invariant _ _ c.in-Some.ensures.cases.0 _ (found a) c.requires.plain_in_bounds);
     }
 
-pub overflow_sub-t : goal.overflow_sub-t
-overflow_sub-t c = omega (arith, (at (goal.at.overflow_sub-t c).In-Closed).above, (at (goal.at.overflow_sub-t c).In-Closed).inside)
+pub loop-group-smaller : goal.loop-group-smaller
+loop-group-smaller c = let k = at (goal.at.loop-group-smaller c).After-unwrap-scanned in
+    part_shorter c.loop-group.rest.now _ (omega (arith, k.above)) (omega (arith, k.above, k.inside, ap length c.in-Some.ensures.cases.0))
 
-pub offset_bounds-t-next : goal.offset_bounds-t-next
-offset_bounds-t-next c = omega (arith, (at (goal.at.offset_bounds-t-next c).In-Closed).above, (at (goal.at.offset_bounds-t-next c).In-Closed).inside, c.loop-t.invariant.place, c.well_formed)
-
-pub slice_bounds-t-count-in-Closed : goal.slice_bounds-t-count-in-Closed
-slice_bounds-t-count-in-Closed c = omega (arith, (at (goal.at.slice_bounds-t-count-in-Closed c).In-Closed).above, (at (goal.at.slice_bounds-t-count-in-Closed c).In-Closed).inside)
-
-pub slice_bounds-t-start-in-Closed : goal.slice_bounds-t-start-in-Closed
-slice_bounds-t-start-in-Closed c = omega (arith, (at (goal.at.slice_bounds-t-start-in-Closed c).In-Closed).above, (at (goal.at.slice_bounds-t-start-in-Closed c).In-Closed).inside)
-
-pub slice_bounds-t-end-in-Closed : goal.slice_bounds-t-end-in-Closed
-slice_bounds-t-end-in-Closed c = omega (arith, (at (goal.at.slice_bounds-t-end-in-Closed c).In-Closed).above, (at (goal.at.slice_bounds-t-end-in-Closed c).In-Closed).inside)
-
-pub loop-t-smaller : goal.loop-t-smaller
-loop-t-smaller c = let k = at (goal.at.loop-t-smaller c).In-Closed in
-    part_shorter c.loop-t.t.now _ (omega (arith, k.above)) (omega (arith, k.above, k.inside))
-
-pub loop-t-preserved : goal.loop-t-preserved
-loop-t-preserved c = copy_next _ _ _ _ _ _ c.loop-t.t.now _ _ c.loop-t.invariant c.loop-t-test.true _ _ _ (found (goal.at.loop-t-preserved c).In-Closed) _ _ c.put_clause-at.ensures
+pub loop-group-preserved : goal.loop-group-preserved
+loop-group-preserved c =
+    let f : SFits w32 c.in-Some.group.now = search rules in
+    copy_next _ _ _ _ _ _ c.loop-group.rest.now _ _ c.loop-group.invariant _ _ c.in-Some.ensures.cases.0 _ (found (goal.at.loop-group-preserved c).After-unwrap-scanned) _ _
+    (simp (c.from.ensures, c.amount.ensures, to_z-of_z) at c.put_clause-at.ensures)
 
 pub put_front-requires : goal.put_front-requires
-put_front-requires c = copy_last _ _ _ _ _ _ _ _ _ c.loop-t.invariant (omega (arith, c.loop-t-test.false)) c.requires.plain_in_bounds
-
-pub shape_of-out : goal.shape_of-out
-shape_of-out c = c.put_front.auto.out ∙ writing_length _ _ _ _ _ _ c.loop-t.invariant.writing
+put_front-requires c = copy_last _ _ _ _ _ _ _ _ _ c.loop-group.invariant c.in_default.ensures.cases c.requires.plain_in_bounds
 
 pub returns : goal.returns
-returns c = copy_end _ _ _ _ _ _ _ _ _ c.loop-t.invariant (omega (arith, c.loop-t-test.false)) _ _ c.put_front.ensures
+returns c = copy_end _ _ _ _ _ _ _ _ _ c.loop-group.invariant c.in_default.ensures.cases _ _ c.put_front.ensures

@@ -5,8 +5,8 @@ use Rattle.writer.specs.Steps.{book_from}
 use Rattle.writer.proofs.Copying.{Copying}
 use Rattle.writer.proofs.put_clauses.Given as goal
 
-abbrev pub invariant-loop-t : goal.invariant-loop-t
-invariant-loop-t l = Copying l.variables (book_from l.plain).groups (book_from l.plain).clauses (length l.plain) l.initial.out l.out l.t l.i l.at
+abbrev pub invariant-loop-group : goal.invariant-loop-group
+invariant-loop-group l = Copying l.variables (book_from l.plain).groups (book_from l.plain).clauses (length l.plain) l.initial.out l.out l.rest l.place l.at
 
-abbrev pub decreases-loop-t : goal.decreases-loop-t
-decreases-loop-t l = length l.t
+abbrev pub decreases-loop-group : goal.decreases-loop-group
+decreases-loop-group l = length l.rest

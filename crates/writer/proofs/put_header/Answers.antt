@@ -1,6 +1,5 @@
 -- `writer::put_header` meets its contract: three runs of stores, one after the other.
 -- Assumes nothing.
-use mathlib.Core.Path.{◌∙◌}
 use mathlib.Core.List.{[], ◌∷◌}
 use native.Mathlib.Omega.{arith}
 use Rattle.field.proofs.Words.{length_word_bytes}
@@ -8,13 +7,10 @@ use Rattle.writer.proofs.Copying.{header_wrote}
 use Rattle.writer.proofs.put_header.Goals as goal
 
 pub put_word-b-requires : goal.put_word-b-requires
-put_word-b-requires c = omega (arith, c.put_front-a.ensures.place, c.put_front-a.auto.out, length_word_bytes (4 ∷ []))
+put_word-b-requires c = omega (arith, length_word_bytes (4 ∷ []))
 
 pub put_word-requires : goal.put_word-requires
-put_word-requires c = omega (arith, c.put_front-a.ensures.place, c.put_front-a.auto.out, length_word_bytes (4 ∷ []), c.put_word-b.ensures.place, c.put_word-b.auto.out, length_word_bytes (c.args.variables ∷ []))
-
-pub shape_of-out : goal.shape_of-out
-shape_of-out c = c.put_word.auto.out ∙ c.put_word-b.auto.out ∙ c.put_front-a.auto.out
+put_word-requires c = omega (arith, length_word_bytes (4 ∷ []), length_word_bytes (c.args.variables ∷ []))
 
 pub returns : goal.returns
 returns c = header_wrote _ _ _ _ _ _ _ _ _ c.put_front-a.ensures c.put_word-b.ensures c.put_word.ensures

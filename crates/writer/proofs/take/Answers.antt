@@ -1,22 +1,47 @@
 -- `writer::take` meets its contract.
 -- Assumes nothing.
-use mathlib.Core.Path.{◌∙◌}
-use Rattle.writer.proofs.Passing.{take_none, take_variables, take_one, take_groups, take_whole}
+use mathlib.Core.Path.{◌≡◌, ◌∙◌}
+use mir.Syntax.{w32}
+use mir.Val.{SFits}
+use Rattle.std.proofs.Common.{rules}
+use Rattle.std.proofs.lemmas.Int.{to_z-of_z}
+use Rattle.std.proofs.lemmas.Result.{err_from_is_err_and}
+use Rattle.answer.specs.Answer.{answered}
+use Rattle.book.specs.Bytes.{most_variables}
+use Rattle.plain.specs.Taking.{number_at}
+use Rattle.writer.proofs.Passing.{take_none, take_bad, take_one, take_groups, take_whole}
 use Rattle.writer.proofs.take.Goals as goal
+use Rattle.writer.proofs.take.Goals.{In_ok-variables}
 
-pub returns-then-plain-eq0 : goal.returns-then-plain-eq0
-returns-then-plain-eq0 c = take_none _ c.if-plain-eq0.true
+-- the variables
+variables : (c : In_ok-variables) → answered c.in_ok-variables.variables ≡ number_at 1 most_variables 0 c.in-Some.first.now
+variables c = let f : SFits w32 c.in-Some.first.now = search rules in rw to_z-of_z at c.in_ok-variables.ensures
 
-pub returns-then-first-ne0 : goal.returns-then-first-ne0
-returns-then-first-ne0 c = take_variables _ c.if-plain-eq0.false _ c.wrong_number-first.ensures c.if-first-ne0.true
+pub returns-in_default : goal.returns-in_default
+returns-in_default c = simp (c.at.ensures.0, c.at.ensures.1) (take_none _ c.in_default.ensures.cases)
 
-pub returns-then-plain-eq1 : goal.returns-then-plain-eq1
-returns-then-plain-eq1 c = take_one _ c.if-plain-eq0.false _ c.wrong_number-first.ensures c.if-first-ne0.false c.if-plain-eq1.true
+pub returns-in_err-variables : goal.returns-in_err-variables
+returns-in_err-variables c =
+    let f : SFits w32 c.in-Some.first.now = search rules in
+    let p = err_from_is_err_and c.from_residual.result c.from_residual.ensures.1 in
+    rw (p.1, p.2) (take_bad _ _ _ c.in-Some.ensures.cases.0 _ _ (rw to_z-of_z at c.in_err-variables.ensures))
 
-pub returns-then-second-ne0 : goal.returns-then-second-ne0
-returns-then-second-ne0 c = take_groups _ c.if-plain-eq0.false _ c.wrong_number-first.ensures c.if-first-ne0.false c.if-plain-eq1.false _ c.wrong_number-second.ensures c.if-second-ne0.true
+pub returns-in_default-split_first : goal.returns-in_default-split_first
+returns-in_default-split_first c =
+    let v = variables (goal.at.returns-in_default-split_first c).In_ok-variables in
+    simp (c.at-in_default-split_first.ensures.0, c.at-in_default-split_first.ensures.1)
+    (take_one _ _ _ c.in-Some.ensures.cases.0 _ v c.in_default-split_first.ensures.cases)
+
+pub returns-in_err-groups : goal.returns-in_err-groups
+returns-in_err-groups c =
+    let v = variables (goal.at.returns-in_err-groups c).In_ok-variables in
+    let f : SFits w32 c.in-Some-split_first.second.now = search rules in
+    let r = c.from_residual-in_err-groups in
+    let p = err_from_is_err_and r.result r.ensures.1 in
+    rw (p.1, p.2) (take_groups _ _ _ c.in-Some.ensures.cases.0 _ v _ _ c.in-Some-split_first.ensures.cases.0 _ _ (rw to_z-of_z at c.in_err-groups.ensures))
 
 pub returns : goal.returns
-returns c = c.take_clauses.ensures
-    ∙ take_whole _ c.if-plain-eq0.false _ c.wrong_number-first.ensures c.if-first-ne0.false c.if-plain-eq1.false _ c.wrong_number-second.ensures c.if-second-ne0.false _ _
-    c.amount_at-variables.ensures c.amount_at-groups.ensures
+returns c =
+    let v = variables (goal.at.returns c).In_ok-variables in
+    let f : SFits w32 c.in-Some-split_first.second.now = search rules in
+    c.take_clauses.ensures ∙ take_whole _ _ _ c.in-Some.ensures.cases.0 _ v _ _ c.in-Some-split_first.ensures.cases.0 _ (rw to_z-of_z at c.in_ok-groups.ensures)

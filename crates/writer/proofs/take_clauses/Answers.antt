@@ -1,81 +1,71 @@
 -- What `writer::take_clauses` leaves open, from the laws.
-use mathlib.Core.Path.{sym, ◌∙◌}
+use mathlib.Core.Path.{◌≡◌}
 use native.Mathlib.Omega.{arith}
+use mir.Syntax.{w32}
+use mir.Val.{SFits}
+use Rattle.std.proofs.Common.{rules}
+use Rattle.std.proofs.lemmas.Int.{to_z-of_z}
+use Rattle.std.proofs.lemmas.Result.{err_from_is_err_and}
+use Rattle.answer.specs.Answer.{answered}
 use Rattle.field.proofs.Parts.{part_shorter}
-use Rattle.writer.proofs.Firsts.{tail_length}
+use Rattle.plain.specs.Taking.{number_at}
 use Rattle.writer.proofs.Passing.{passing_start, passing_done, passing_full, passing_bad, passing_wrong, Next, passing_next}
 use Rattle.writer.proofs.take_clauses.Goals as goal
-use Rattle.writer.proofs.take_clauses.Goals.{In-Closed}
+use Rattle.writer.proofs.take_clauses.Goals.{In_ok-number_within, In_ok-scanned}
 
--- where a clause was closed
-next : (c : In-Closed)
-    → let a = c.args in
-    Next a.variables a.groups a.plain.now c.loop-t.t.now c.loop-t.place c.if-t-eq0.false c.loop-t.size _ c.wrong_number-number.ensures c.loop-t.left c.in-Closed.count c.in-Closed.next
-next c = passing_next _ _ _ c.loop-t.t.now _ c.if-t-eq0.false _ _ c.wrong_number-number.ensures _ c.if-left-eq0.false c.loop-t.invariant c.if-number-ne0.false _ _ _ (sym c.in-Closed.is ∙ c.scan_clause.ensures)
+-- the group, and what the clause that was closed says
+group : (c : In_ok-number_within) → answered c.in_ok-number_within.field-0 ≡ number_at 0 c.args.groups c.loop-group.place c.in-Some.group.now
+group c = let f : SFits w32 c.in-Some.group.now = search rules in rw to_z-of_z at c.in_ok-number_within.ensures
 
-pub loop-t-init : goal.loop-t-init
-loop-t-init c = passing_start _ _ _ c.requires.0
+next : (c : In_ok-scanned) → (ok : answered c.in_ok-number_within.field-0 ≡ number_at 0 c.args.groups c.loop-group.place c.in-Some.group.now)
+    → Next c.args.variables c.args.groups c.args.clauses.now c.loop-group.rest.now c.loop-group.place c.loop-group.left c.loop-group.length c.loop-group.invariant
+    c.in-Some.group.now c.in-Some.literals.now c.in-Some.ensures.cases.0 c.if-left-eq0.false c.in_ok-number_within.field-0 ok c.in_ok-scanned.scanned
+next c ok = passing_next _ _ _ _ _ _ _ c.loop-group.invariant _ _ c.in-Some.ensures.cases.0 c.if-left-eq0.false _ ok _ c.in_ok-scanned.ensures
 
-pub returns-then-t-eq0 : goal.returns-then-t-eq0
-returns-then-t-eq0 c = passing_done _ _ _ _ _ _ _ c.loop-t.invariant c.if-t-eq0.true
+pub loop-group-init : goal.loop-group-init
+loop-group-init c = passing_start _ _ _
 
 pub returns-then-left-eq0 : goal.returns-then-left-eq0
-returns-then-left-eq0 c = passing_full _ _ _ _ _ _ _ c.loop-t.invariant c.if-t-eq0.false c.if-left-eq0.true
+returns-then-left-eq0 c = simp (c.at.ensures.0, c.at.ensures.1) (passing_full _ _ _ _ _ _ _ c.loop-group.invariant _ _ c.in-Some.ensures.cases.0 c.if-left-eq0.true)
 
-pub wrong_number-number-requires : goal.wrong_number-number-requires
-wrong_number-number-requires c = omega (arith, c.if-t-eq0.false)
+pub returns-in_err-number_within : goal.returns-in_err-number_within
+returns-in_err-number_within c =
+    let f : SFits w32 c.in-Some.group.now = search rules in
+    let p = err_from_is_err_and c.from_residual.result c.from_residual.ensures.1 in
+    rw (p.1, p.2) (passing_bad _ _ _ _ _ _ _ c.loop-group.invariant _ _ c.in-Some.ensures.cases.0 c.if-left-eq0.false _ _ (rw to_z-of_z at c.in_err-number_within.ensures))
 
-pub returns-then-number-ne0 : goal.returns-then-number-ne0
-returns-then-number-ne0 c = passing_bad _ _ _ c.loop-t.t.now _ c.if-t-eq0.false _ _ c.wrong_number-number.ensures _ c.if-left-eq0.false c.loop-t.invariant c.if-number-ne0.true
+pub returns-in_err-scanned : goal.returns-in_err-scanned
+returns-in_err-scanned c =
+    let r = c.from_residual-in_err-scanned in
+    let p = err_from_is_err_and r.result r.ensures.1 in
+    rw (p.1, p.2)
+    (passing_wrong _ _ _ _ _ _ _ c.loop-group.invariant _ _ c.in-Some.ensures.cases.0 c.if-left-eq0.false _ (group (goal.at.returns-in_err-scanned c).In_ok-number_within) _ _ c.in_err-scanned.ensures)
 
-pub slice_bounds-scan_clause-count : goal.slice_bounds-scan_clause-count
-slice_bounds-scan_clause-count c = omega (arith, c.if-t-eq0.false)
+pub overflow_sub-rest : goal.overflow_sub-rest
+overflow_sub-rest c = let k = next (goal.at.overflow_sub-rest c).In_ok-scanned (group (goal.at.overflow_sub-rest c).In_ok-number_within) in omega (arith, k.above)
 
-pub slice_bounds-scan_clause-start : goal.slice_bounds-scan_clause-start
-slice_bounds-scan_clause-start c = omega (arith, c.if-t-eq0.false)
+pub offset_bounds-rest-scanned : goal.offset_bounds-rest-scanned
+offset_bounds-rest-scanned c =
+    let k = next (goal.at.offset_bounds-rest-scanned c).In_ok-scanned (group (goal.at.offset_bounds-rest-scanned c).In_ok-number_within) in
+    omega (arith, k.inside, c.loop-group.invariant.place)
 
-pub overflow_add-place : goal.overflow_add-place
-overflow_add-place c = omega (arith, c.loop-t.invariant.place, c.requires.1)
+pub slice_bounds-rest-count : goal.slice_bounds-rest-count
+slice_bounds-rest-count c =
+    let k = next (goal.at.slice_bounds-rest-count c).In_ok-scanned (group (goal.at.slice_bounds-rest-count c).In_ok-number_within) in
+    omega (arith, k.inside)
 
-pub scan_clause-requires : goal.scan_clause-requires
-scan_clause-requires c = omega (arith, c.loop-t.invariant.place, c.requires.1, tail_length c.loop-t.t.now c.if-t-eq0.false)
+pub slice_bounds-rest-start : goal.slice_bounds-rest-start
+slice_bounds-rest-start c =
+    let k = next (goal.at.slice_bounds-rest-start c).In_ok-scanned (group (goal.at.slice_bounds-rest-start c).In_ok-number_within) in
+    omega (arith, k.inside)
 
-pub returns-in-Wrong : goal.returns-in-Wrong
-returns-in-Wrong c = passing_wrong _ _ _ c.loop-t.t.now _ c.if-t-eq0.false _ _ c.wrong_number-number.ensures _ c.if-left-eq0.false c.loop-t.invariant c.if-number-ne0.false _ _ (sym c.in-Wrong.is ∙ c.scan_clause.ensures)
+pub loop-group-smaller : goal.loop-group-smaller
+loop-group-smaller c =
+    let k = next (goal.at.loop-group-smaller c).In_ok-scanned (group (goal.at.loop-group-smaller c).In_ok-number_within) in
+    part_shorter c.loop-group.rest.now _ (omega (arith, k.above)) (omega (arith, k.above, k.inside))
 
-pub overflow_cast-size : goal.overflow_cast-size
-overflow_cast-size c = omega (arith, (next c).few)
+pub loop-group-preserved : goal.loop-group-preserved
+loop-group-preserved c = simp c.from.ensures (next (goal.at.loop-group-preserved c).In_ok-scanned (group (goal.at.loop-group-preserved c).In_ok-number_within)).next
 
-pub overflow_mul-size : goal.overflow_mul-size
-overflow_mul-size c = omega (arith, (next c).few)
-
-pub overflow_add-size : goal.overflow_add-size
-overflow_add-size c = omega (arith, (next c).few)
-
-pub overflow_add-size-in-Closed : goal.overflow_add-size-in-Closed
-overflow_add-size-in-Closed c = omega (arith, (next c).few, c.loop-t.invariant.small)
-
-pub overflow_sub-left : goal.overflow_sub-left
-overflow_sub-left c = omega (arith, c.if-left-eq0.false)
-
-pub overflow_sub-t : goal.overflow_sub-t
-overflow_sub-t c = omega (arith, (next c).above, (next c).inside)
-
-pub offset_bounds-t-next : goal.offset_bounds-t-next
-offset_bounds-t-next c = omega (arith, (next c).above, (next c).inside, c.loop-t.invariant.place, c.requires.1)
-
-pub slice_bounds-t-count-in-Closed : goal.slice_bounds-t-count-in-Closed
-slice_bounds-t-count-in-Closed c = omega (arith, (next c).above, (next c).inside)
-
-pub slice_bounds-t-start-in-Closed : goal.slice_bounds-t-start-in-Closed
-slice_bounds-t-start-in-Closed c = omega (arith, (next c).above, (next c).inside)
-
-pub slice_bounds-t-end-in-Closed : goal.slice_bounds-t-end-in-Closed
-slice_bounds-t-end-in-Closed c = omega (arith, (next c).above, (next c).inside)
-
-pub loop-t-smaller : goal.loop-t-smaller
-loop-t-smaller c = let k = next (goal.at.loop-t-smaller c).In-Closed in
-    part_shorter c.loop-t.t.now _ (omega (arith, k.above)) (omega (arith, k.above, k.inside))
-
-pub loop-t-preserved : goal.loop-t-preserved
-loop-t-preserved c = (next (goal.at.loop-t-preserved c).In-Closed).next
+pub returns : goal.returns
+returns c = passing_done _ _ _ _ _ _ _ c.loop-group.invariant c.in_default.ensures.cases

@@ -4,8 +4,8 @@ use lib.ListN.{length}
 use Rattle.writer.proofs.Passing.{Passing}
 use Rattle.writer.proofs.take_clauses.Given as goal
 
-abbrev pub invariant-loop-t : goal.invariant-loop-t
-invariant-loop-t l = Passing l.variables l.groups l.plain l.t l.place l.left l.size
+abbrev pub invariant-loop-group : goal.invariant-loop-group
+invariant-loop-group l = Passing l.variables l.groups l.clauses l.rest l.place l.left l.length
 
-abbrev pub decreases-loop-t : goal.decreases-loop-t
-decreases-loop-t l = length l.t
+abbrev pub decreases-loop-group : goal.decreases-loop-group
+decreases-loop-group l = length l.rest

@@ -1,0 +1,20 @@
+// The clause whose field stands first in some bytes: where its parts lie.
+
+ghost use Rattle.std.specs.Prelude.{◌≡◌, ◌+◌, ◌≤◌, length};
+ghost use Rattle.field.specs.Field.{size};
+ghost use Rattle.book.specs.Reading.{clause_of};
+ghost use Rattle.book.specs.Clauses.{clause_is};
+
+use crate::accepted::Clause;
+
+pub fn first_clause(rest: &[u8]) -> Clause<'_>
+    requires { (7 ≤ size rest.now) × (size rest.now ≤ length rest.now) }
+    ensures clause { clause_is result ≡ clause_of rest.now }
+    ensures size { 5 + length result.groups.now + length result.body.now ≡ size rest.now }
+{
+    Clause {
+        groups: &rest[3..5],
+        head: field::word_at(rest, 5),
+        body: &rest[7..field::size_of(rest)],
+    }
+}

@@ -1,6 +1,0 @@
--- `decimal::put_number` calls itself with the digits above the last, a smaller number.
--- Assumes nothing.
-use Rattle.decimal.proofs.+put_number.Given as goal
-
-abbrev pub decreases-put_number : goal.decreases-put_number
-decreases-put_number l = l.n

@@ -1,8 +1,0 @@
--- `lists::pop` meets its contract: the store is among the lists.
--- Assumes nothing.
-use native.Mathlib.Omega.{arith}
-use Rattle.lists.proofs.Stores.{aside_none, aside_set}
-use Rattle.lists.proofs.pop.Goals as goal
-
-pub returns : goal.returns
-returns c = (omega (arith, c.if-clauses-first.false), aside_set _ _ _ _ _ _ c.requires.0.from c.requires.0.to (aside_none _ _ _))

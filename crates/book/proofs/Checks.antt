@@ -3,6 +3,7 @@
 --   checked_one          books of the same bytes with the same numbers are the same, and so are refusals
 --   check_one            so the contract of `check` determines its answer
 --   check_refused        a refusal is the reading's
+--   check_found          bytes that are accepted are not refused
 --   Accepted, check_book      a book is accepted, and its numbers are the answer's
 -- Assumes nothing.
 use Prim.Native.Nat.{ℕ, suc, ◌≤◌, ◌<◌}
@@ -17,6 +18,7 @@ use native.Mathlib.Nat.{ℕ_set}
 use mathlib.Core.Bool.{Bool-set}
 use Rattle.std.specs.Prelude.{Result, Ok, Err, IfOk}
 use Rattle.std.specs.List.{list_all}
+use Rattle.std.specs.Result.{IsOk}
 use Rattle.std.specs.Borrow.{Bor}
 use Rattle.book.specs.declared.accepted.Book.{Book as Found}
 use Rattle.answer.specs.declared.Refusal.{Refusal}
@@ -30,7 +32,7 @@ use Rattle.meaning.specs.Book.{Book}
 use Rattle.book.specs.Bytes.{most_bytes, most_clauses}
 use Rattle.book.specs.Reading.{variables_of, groups_of, wrong_header, fields, with_clauses, reading}
 use Rattle.book.specs.Check.{checked_is, numbers_of, checking}
-use Rattle.book.specs.Walk.{taken, book_of, answers, is_accepted}
+use Rattle.book.specs.Walk.{taken, book_of, IsBook, answers, is_accepted}
 use Rattle.book.proofs.Fields.{reading_long, reading_bad, reading_fields}
 use Rattle.book.proofs.Counting.{answer_of}
 
@@ -63,6 +65,13 @@ refused_is (refused m p) n at e = cc
 pub check_refused : (s : List ℕ) (n at : ℕ) → refused n at ≡ checking s → reading s ≡ refused n at
 unfolding checking
 check_refused s n at e = refused_is (reading s) n at e
+
+pub check_found : (s : List ℕ) → IsBook s → (r : Result Found Refusal) → checked_is r ≡ checking s → IsOk r
+check_found s is (Ok b) e = refl
+check_found s is (Err q) e =
+    let d : refused (number_of q.cause) q.place ≡ answered (book_of s) = sym (check_refused s (number_of q.cause) q.place e) ∙ is.read in
+    let z : ◌≡◌ {A = ℕ} 0 1 = cc in
+    absurd (omega arith)
 
 -- two books of the same bytes and numbers are the same
 abbrev Plain : Type 0

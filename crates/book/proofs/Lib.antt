@@ -6,6 +6,7 @@ pub mod Written
 pub mod Inverse
 pub mod Left
 pub mod Walk
+pub mod Turns
 pub mod Walks
 pub mod Sizes
 pub mod Checks

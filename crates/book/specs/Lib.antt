@@ -4,3 +4,4 @@ pub mod Reading
 pub mod Check
 pub mod Walk
 pub mod Clauses
+pub mod Front

@@ -35,7 +35,16 @@ pub struct Clauses<'a> {
 }
 
 impl<'a> Book<'a> {
+    ghost use Rattle.book.specs.Walk.{IsBook};
     ghost use Rattle.book.specs.Clauses.{meant, clauses_left};
+
+    // The book that some bytes are, where they are known to be accepted: `check` finds no refusal.
+    pub fn of(bytes: &'a [u8]) -> Book<'a>
+        requires { IsBook bytes.now }
+        ensures { result.bytes ≡ bytes.entry }
+    {
+        crate::check(bytes).unwrap()
+    }
 
     // Its clauses, one after the other.
     pub fn walk(&self) -> Clauses<'a>

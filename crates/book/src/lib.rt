@@ -10,10 +10,12 @@ ghost use Rattle.book.specs.Check.{checked_is, checking};
 
 mod accepted;
 mod first;
+mod front;
 
 pub use accepted::{Book, Clause, Clauses};
 use answer::{Cause, Refusal};
 pub use first::first_clause;
+pub use front::{Front, front_of};
 
 // The limits.
 pub const MOST_BYTES: usize = 65535;
@@ -111,15 +113,14 @@ fn test_numbers(rest: &[u8], header: Header) -> Result<(), Cause>
     }
     let end = field::size_of(rest);
     let body = &rest[7..end];
-    let inside = field::all_within(body, 1, header.variables);
-    let rises = field::is_rising(body);
-    if !inside {
+    // nearly all bodies are right: those have one pass
+    if field::is_rising_to(body, header.variables) {
+        return Ok(());
+    }
+    if !field::all_within(body, 1, header.variables) {
         return Err(Cause::OutOfRange);
     }
-    if !rises {
-        return Err(Cause::NotRising);
-    }
-    Ok(())
+    Err(Cause::NotRising)
 }
 
 // A clause.

@@ -81,9 +81,12 @@ impl Number for u32 {
     }
 }
 
+// In two reads, each of which an end of the input ends.
 impl Number for u64 {
     fn next<R: Read>(input: &mut R) -> io::Result<u64> {
-        Ok(u64::from_be_bytes(next_bytes(input)?))
+        let high = u32::next(input)?;
+        let low = u32::next(input)?;
+        Ok(((high as u64) << 32) | low as u64)
     }
 }
 

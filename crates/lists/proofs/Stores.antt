@@ -4,6 +4,7 @@
 --   aside_set, aside_part         one more store among the lists, and a whole part of them that is written
 --   changes_front                 the front alone is changed
 --   front_long, front_within      the front holds one word a variable, and a body's variables are within
+--   room_on                       a space of the same length
 --   layout_room                   a space that is long enough for a layout
 --   aside_as                      the same change by equal numbers of variables and clauses
 -- Assumes nothing.
@@ -76,6 +77,9 @@ module _ (v m : ℕ) where
 
   pub front_within : (w ws : List ℕ) → Room v m w → within 1 v ws ≡ true → within 1 (length (take v w)) ws ≡ true
   front_within w ws R h = rw (front_long w R) h
+
+  pub room_on : (w w' : List ℕ) → Room v m w → length w' ≡ length w → Room v m w'
+  room_on w w' R e = record { small = R.small; long = omega (arith, R.long, e) }
 
 pub layout_room : (l : Layout) (w : List ℕ) → 8192 ≤ length w → Room l.variables l.clauses w
 layout_room l w h = record { small = record { variables = l.few_variables; clauses = l.few_clauses }; long = h }

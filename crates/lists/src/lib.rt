@@ -213,6 +213,13 @@ impl Layout {
         work[least] = work[least].min(group - 1);
     }
 
+    // Whether a run need not go on: not the whole of it is asked for, and a goal has no higher level.
+    pub fn is_enough(self, whole: bool, level: u16, work: &[u16]) -> bool
+        requires { 8192 ≤ length work.now }
+    {
+        !whole && self.least(work) <= level
+    }
+
     // The lists after a pass that ended at a group, for the next pass: what was left to do at the group and what waits at it is due at once; what was left
     // above it is of groups that are no longer in the pool.
     pub fn keep_lists(self, group: u16, work: &mut [u16])
@@ -273,9 +280,12 @@ impl Layout {
     {
         let at = self.aside_word(variable);
         let bit = aside_bit(variable);
-        let was = (work[at] & bit) != 0;
-        work[at] &= !bit;
-        was
+        // stored only where it changes: variables of one body often share a word
+        if work[at] & bit == 0 {
+            return false;
+        }
+        work[at] ^= bit;
+        true
     }
 
     // The variables of a body are not left aside. Whether one of them was.
@@ -285,7 +295,9 @@ impl Layout {
     {
         let mut found = false;
         for variable in field::words_of(body) {
-            found |= self.bring_back(variable, work);
+            if self.bring_back(variable, work) {
+                found = true;
+            }
         }
         found
     }

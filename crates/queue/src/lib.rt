@@ -54,7 +54,7 @@ pub fn run(book: &Book, arrivals: Arrivals, until: Until, work: &mut [u16])
         if NEVER <= level {
             return;
         }
-        if until == Until::Goal && layout.least(work) <= level {
+        if layout.is_enough(until == Until::End, level, work) {
             return;
         }
         level = advance(book, arrivals, level, work);

@@ -3,6 +3,7 @@
 --   records_none, records_next     the first records: none, and one more in front
 --   record_in                      record i is one of the first c where i < c
 --   allowed_by, allowed_not        the first c records leave a choice where each of them does; not where one does not
+--   one_more                       a loop's step from what holds before i to what holds before i + 1
 --   words_length, length_records      the words of so many records, and the records of so many words
 --   record_back, set_back          a record written and read; the set of one that is read
 --   records_read                   the records that were written as words are read back
@@ -69,6 +70,14 @@ allowed_by ws zero x f = ap (λ (rs : List Record). allowed rs x) (records_none 
 allowed_by ws (suc c) x f =
     ap (λ (rs : List Record). allowed rs x) (records_next ws c) ∙ allowed_first (record_from (kind_at ws 0) (set_at ws 0)) (records_of (drop record_words ws) c) x
     ∙ ap₂ (λ (a b : Bool). a && b) (f 0 (omega arith)) (allowed_by (drop record_words ws) c x (λ i h. ap (λ (r : Record). allows r x) (later ws i) ∙ f (suc i) (omega arith)))
+
+-- what holds of each record before i, and of record i, holds of each before i + 1
+pub one_more : (P : ℕ → Type 0) (i : ℕ) → ((j : ℕ) → j < i → P j) → P i → (j : ℕ) → j < i + 1 → P j
+one_more P i f p j h = go (ℕ_discrete j i)
+  where
+    go : Dec (j ≡ i) → P j
+    go (yes e) = subst P (sym e) p
+    go (no o) = f j (omega arith)
 
 pub allowed_not : (ws : List ℕ) (c x i : ℕ) → i < c → allows (record_from (kind_at ws i) (set_at ws i)) x ≡ false → allowed (records_of ws c) x ≡ false
 allowed_not ws c x i h e = shut_at (records_of ws c) x (record_from (kind_at ws i) (set_at ws i)) (record_in ws c i h) e

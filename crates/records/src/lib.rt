@@ -69,21 +69,25 @@ pub fn set_at(records: &[u32], i: usize) -> u32
     records[RECORD_WORDS * i + 1]
 }
 
-// Record i. Any kind but an explanation's is read as a repair; `fault` finds those that are neither.
+// The record of a kind and a set, by the number that stands for the kind. Any number but an explanation's is read as a repair's.
 #[tactic(auto, unfolding(crate::specs::Words::record_from))]
-pub fn record_at(records: &[u32], i: usize) -> Record
-    requires { i < room' records.now }
-    ensures { record_is result ≡ record_from (kind_at' records.now i) (set_at' records.now i) }
+pub fn record_of(kind: u32, set: u32) -> Record
+    ensures { record_is result ≡ record_from kind set }
 {
-    let kind = if kind_at(records, i) == Kind::Explanation as u32 {
+    let kind = if kind == Kind::Explanation as u32 {
         Kind::Explanation
     } else {
         Kind::Repair
     };
-    Record {
-        kind,
-        set: set_at(records, i),
-    }
+    Record { kind, set }
+}
+
+// Record i. `fault` finds those whose kind is neither number.
+pub fn record_at(records: &[u32], i: usize) -> Record
+    requires { i < room' records.now }
+    ensures { record_is result ≡ record_from (kind_at' records.now i) (set_at' records.now i) }
+{
+    record_of(kind_at(records, i), set_at(records, i))
 }
 
 // Record i is written, by the number of its kind. Any number can be written; `fault` finds those that are no kind.

@@ -59,3 +59,11 @@ pub fn amount(x: i32) -> u16
 {
     (x.unsigned_abs() % 65536) as u16
 }
+
+// The same of the number that stands at `at`.
+pub fn amount_at(s: &[i32], at: usize) -> u16
+    requires { at < length s.now }
+    ensures { result ≡ nat_abs (get_or s.now at (pos 0)) % 65536 }
+{
+    amount(s[at])
+}

@@ -1,15 +1,15 @@
-// What programs print of an answer: what was written, or the refusal. And whether a text is longer than programs take.
+// What programs print of an answer: what was written, or the refusal. And the text that they read, unless it is longer than they take.
 // After an error of a function that prints, a part of what it was to print is printed, from the first byte on.
 #![tactic(auto)]
 
-ghost use Rattle.std.specs.Prelude.{◌≤◌, ◌<◌, ◌↔◌, ◌∷◌, [], IfOk, IfSome, OnErr, IsTrue};
+ghost use Rattle.std.specs.Prelude.{◌≡◌, ◌≤◌, ◌<◌, ◌↔◌, ◌∷◌, [], length, take, IfOk, IfSome, MatchOption, OnErr, IsTrue};
 ghost use Rattle.decimal.specs.Digits.{number};
 ghost use Rattle.report.specs.Text.{refusal_text};
-ghost use Rattle.streams.specs.Streams.{Prints};
+ghost use Rattle.streams.specs.Streams.{Loses, Prints};
 ghost use Rattle.tell.specs.Told.{front_of, answer_of};
 
 use answer::Refusal;
-use std::io::{self, Write};
+use std::io::{self, Read, Write};
 use streams::{read_full, write_full};
 
 pub fn blank<W: Write>(out: &mut W) -> io::Result<()>
@@ -79,14 +79,19 @@ pub fn too_long(rt: &impl Eprint, n: usize) -> io::Result<bool>
 // Room for one byte more, so that a longer text is seen to be too long.
 pub const TEXT_ROOM: usize = MOST_TEXT + 1;
 
-// Reads a text from standard input into the front of a space, and says how many bytes it has; none where the text is longer than programs take.
-pub fn read_text(
-    rt: &(impl Input + Eprint),
+// Reads a text into the front of a space, and says how many bytes it has; none where it is longer than programs take, which is then said on standard error.
+// At an error too, bytes are taken from the front of the input alone.
+pub fn read_text<R: Read>(
+    input: &mut R,
+    rt: &impl Eprint,
     text: &mut [u8; TEXT_ROOM],
 ) -> io::Result<Option<usize>>
-    ensures { IfOk result (λ n. IfSome n (λ len. len ≤ 524288)) }
+    ensures within { IfOk result (λ n. IfSome n (λ len. len ≤ 524288)) }
+    ensures whole { IfOk result (λ n. IfSome (R.remaining input.old)
+        (λ xs. MatchOption n (524288 < length xs) (λ len. take len text.new ≡ xs))) }
+    ensures loses { Loses (R.remaining input.old) (R.remaining input.new) }
 {
-    let n = read_full(&mut rt.reader(), text)?;
+    let n = read_full(input, text)?;
     if too_long(rt, n)? {
         return Ok(None);
     }

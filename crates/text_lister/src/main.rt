@@ -26,7 +26,7 @@ fn list<W: Write>(out: &mut W, text: &[u8]) -> io::Result<()> {
 }
 
 fn run(rt: &(impl Input + Print + Eprint), text: &mut [u8; TEXT_ROOM]) -> io::Result<()> {
-    match tell::read_text(rt, text)? {
+    match tell::read_text(&mut rt.reader(), rt, text)? {
         Some(n) => list(&mut io::writer(rt), &text[..n]),
         None => Ok(()),
     }

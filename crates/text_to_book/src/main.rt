@@ -11,7 +11,7 @@ fn convert<W: Write>(out: &mut W, text: &[u8]) -> io::Result<()> {
 }
 
 fn run(rt: &(impl Input + Print + Eprint), text: &mut [u8; TEXT_ROOM]) -> io::Result<()> {
-    match tell::read_text(rt, text)? {
+    match tell::read_text(&mut rt.reader(), rt, text)? {
         Some(n) => convert(&mut io::writer(rt), &text[..n]),
         None => Ok(()),
     }

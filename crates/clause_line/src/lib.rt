@@ -156,6 +156,9 @@ pub fn step_of(line: &[u8], limits: Limits, body: &mut [u16]) -> Result<Option<C
     ensures value { told result ≡ step_of limits.variables limits.groups limits.left line.now }
     ensures body_after { body.new ≡ body_after line.now body.old }
 {
+    if line::is_skipped(line) {
+        return Ok(None);
+    }
     match line::start_of(line) {
         Some(Start::Skipped) => Ok(None),
         Some(Start::Clause { group, next }) => {

@@ -30,6 +30,10 @@ pub fn put_number(n: usize, out: &mut [u8], at: usize) -> usize
     requires { at + length (number n) ≤ length out.old }
     ensures { Wrote out.old at (number n) out.new result }
 {
+    // most numbers of a book are short
+    if n < 10 {
+        return put_byte(b'0' + n as u8, out, at);
+    }
     let end = at + number_length(n);
     itoa::write_digits(n as u64, out, end);
     end
@@ -48,5 +52,8 @@ pub fn put_after(n: usize, out: &mut [u8], at: usize) -> usize
 pub fn number_length(n: usize) -> usize
     ensures { result ≡ length (number n) }
 {
-    n.max(1).ilog10() as usize + 1
+    if n < 10 {
+        return 1;
+    }
+    n.ilog10() as usize + 1
 }

@@ -4,6 +4,7 @@
 --   words_none, spelt            what some bytes spell, by their length
 --   within_all                   `within` tests each number
 --   rising_not, rising_next, rising_none      one turn of a test whether numbers rise
+--   climbing_not, climbing_high, climbing_next, climbing_none      ... and whether none is above a limit
 --   within_cons, cons_within, rising_cons, cons_rising      a test of a number and of those after it, both ways
 --   within_one, one_within       of one number alone
 --   within_more                  within wider limits
@@ -16,12 +17,12 @@
 use Prim.Native.Nat.{ℕ, zero, suc, ◌+◌, ◌-◌, ◌*◌, ◌/◌, ◌%◌, ◌≤◌, ◌<◌}
 use mathlib.Core.Path.{◌≡◌, refl, ap, ◌∙◌}
 use mathlib.Core.List.{List, [], ◌∷◌, ◌++◌}
-use mathlib.Core.Bool.{true, false, ◌&&◌}
+use mathlib.Core.Bool.{true, false, ◌&&◌, and-false}
 use native.Mathlib.Omega.{arith}
 use lib.ListN.{length, get_or, take, drop}
 use lib.Seq.{drop-cons}
 use lib.Dec.{leb, ltb}
-use borrow.Author.Tests.{lt-ltb, le-ltb, le-leb, leb-true, ltb-true}
+use borrow.Author.Tests.{lt-ltb, le-ltb, le-leb, lt-leb, leb-true, ltb-true}
 use Rattle.std.specs.List.{list_all}
 use Rattle.answer.proofs.Tests.{and_left, and_right}
 use Rattle.field.specs.Words.{Bytes, word, word_at, words, word_bytes, within, rising}
@@ -78,9 +79,24 @@ module _ (b w : ℕ) (ws left : List ℕ) (is : left ≡ w ∷ ws) where
   unfolding rising
   rising_next h = simp (is, lt-ltb b w h)
 
+  pub climbing_not : (v : ℕ) → w ≤ b → (within 1 v left && rising b left) ≡ false
+  climbing_not v h = ap (λ c. within 1 v left && c) (rising_not h) ∙ and-false (within 1 v left)
+
+  pub climbing_high : (v : ℕ) → v < w → (within 1 v left && rising b left) ≡ false
+  unfolding within
+  climbing_high v h = simp (is, lt-leb w v h, and-false)
+
+  pub climbing_next : (v : ℕ) → b < w → w ≤ v → (within 1 v left && rising b left) ≡ (within 1 v ws && rising w ws)
+  unfolding within
+  climbing_next v h k = ap (λ c. within 1 v left && c) (rising_next h) ∙ simp (is, le-leb 1 w (omega (arith, h)), le-leb w v k)
+
 pub rising_none : (b : ℕ) (left : List ℕ) → left ≡ [] → rising b left ≡ true
 unfolding rising
 rising_none b left e = simp e
+
+pub climbing_none : (v b : ℕ) (left : List ℕ) → left ≡ [] → (within 1 v left && rising b left) ≡ true
+unfolding within rising
+climbing_none v b left e = simp e
 
 -- a number's bytes spell it
 pub two_bytes : (w : ℕ) → word (w / 256) (w % 256) ≡ w

@@ -1,7 +1,7 @@
 // Numbers of two bytes, the high byte first, and tagged fields made of them. Nothing here is about rule books.
 #![tactic(auto)]
 
-ghost use Rattle.std.specs.Prelude.{◌≡◌, [], ◌∷◌, ◌+◌, ◌<◌, ◌≤◌, length};
+ghost use Rattle.std.specs.Prelude.{◌≡◌, ◌&&◌, [], ◌∷◌, ◌+◌, ◌<◌, ◌≤◌, length};
 ghost use Rattle.answer.specs.Space.{Wrote};
 ghost use Rattle.field.specs.Words.{word_at, words, word_bytes, within, rising};
 ghost use Rattle.field.specs.Field.{size, short};
@@ -83,6 +83,23 @@ pub fn is_rising(part: &[u8]) -> bool
     let mut last = 0;
     for w in words_of(part) {
         if w <= last {
+            return false;
+        }
+        last = w;
+    }
+    true
+}
+
+// Both in one pass: whether the numbers of a part rise strictly, the first from above 0, and none is above `high`.
+pub fn is_rising_to(part: &[u8], high: u16) -> bool
+    ensures { result ≡ (within 1 high (words part.now) && rising 0 (words part.now)) }
+{
+    let mut last = 0;
+    for w in words_of(part) {
+        if last >= w {
+            return false;
+        }
+        if high < w {
             return false;
         }
         last = w;

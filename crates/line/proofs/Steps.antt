@@ -12,6 +12,7 @@
 --   heading_by         what follows `p`, by the next token
 --   rest_after         the tokens of what follows a place
 --   comment_first      a comment begins with c
+--   start_comment, start_blank      a comment, and a line with no token, is skipped
 -- Assumes nothing.
 use Prim.Native.Nat.{ℕ, zero, suc, ◌-◌, ◌<◌}
 use mathlib.Core.Path.{◌≡◌, refl, sym, ap, ◌∙◌}
@@ -24,16 +25,18 @@ use lib.Dec.{ltb, eqb, eqb-suc-zero}
 use borrow.Author.Tests.{lt-ltb, eq-eqb, ne_eqb, eqb-true, eqb-false}
 use Rattle.std.specs.Cmp.Lexicographic.{pointwise}
 use Rattle.std.specs.Prelude.{Option, None, Some}
-use Rattle.std.specs.Option.{option_map, option_and_then}
+use Rattle.std.specs.Option.{option_map, option_and_then, option_map_or}
 use Rattle.field.proofs.Parts.{part_end}
 use Rattle.text.specs.Lines.{minus_sign, open_brace, close_brace, letter_c, gcnf_word, tokens, same, is_digit, all_digits, digits, value, is_minus, is_zero, is_group}
 use Rattle.text.specs.Forms.{heading, formless, none, counts_line, heading_line, is_comment}
 use Rattle.line.specs.Tokens.{next_of, cap, spelt}
-use Rattle.line.specs.Starts.{token_in, group_in, literal_from, next_count, by_number, groups_form, clauses_form, heading_form}
+use Rattle.line.specs.Starts.{token_in, group_in, literal_from, next_count, by_number, groups_form, clauses_form, heading_form, start_from, start_of}
 use Rattle.line.specs.declared.Token.{Token}
 use Rattle.line.specs.declared.Literal.{Literal}
 use Rattle.line.specs.declared.Literal.TheVariants as LiteralV
 use Rattle.line.specs.declared.Heading.{Heading}
+use Rattle.line.specs.declared.Start.{Start}
+use Rattle.line.specs.declared.Start.TheVariants as StartV
 use Rattle.line.proofs.Tokens.{next_none, next_token}
 
 abbrev pub tail : List ℕ → ℕ → List ℕ
@@ -187,3 +190,15 @@ comment_first (a ∷ l) = go (eqb a letter_c) refl
     go : (b : Bool) → eqb a letter_c ≡ b → (eqb letter_c a && true) ≡ b
     go true e = rw (eq-eqb letter_c a (sym (eqb-true a letter_c e)))
     go false e = rw (ne_eqb letter_c a (λ q. eqb-false a letter_c e (sym q)))
+
+pub start_comment : (l : List ℕ) → is_comment l ≡ true → start_of l ≡ Some StartV.Skipped
+unfolding start_of
+start_comment l e = simp e refl
+
+pub start_blank : (l : List ℕ) → None ≡ next_of l → start_of l ≡ Some StartV.Skipped
+unfolding start_of
+start_blank l e = go (is_comment l)
+  where
+    go : (t : Bool) → cond t (Some StartV.Skipped) (option_map_or (λ t. start_from (token_in l t) t.end l) (next_of l) (Some StartV.Skipped)) ≡ Some StartV.Skipped
+    go true = refl
+    go false = ap (λ x. option_map_or (λ t. start_from (token_in l t) t.end l) x (Some StartV.Skipped)) (sym e)

@@ -1,11 +1,12 @@
 // Where the lines of a text and the tokens of a line lie, the numbers that tokens spell, and what a line begins as.
 #![tactic(auto)]
 
-ghost use Rattle.std.specs.Prelude.{◌≡◌, ◌∷◌, ◌≤◌, ◌<◌, IfSome, length};
+ghost use Rattle.std.specs.Prelude.{◌≡◌, ◌∷◌, ◌≤◌, ◌<◌, Some, IfSome, true, length};
 ghost use Rattle.text.specs.Lines.{ends, separates, tokens, same};
 ghost use Rattle.text.specs.Forms.{none, heading_line, counts_line};
 ghost use Rattle.line.specs.Tokens.{run_of, gap_of, next_of, spelt};
 ghost use Rattle.line.specs.Starts.{token_in, group_in, literal_from, next_literal, next_count, groups_form, clauses_form, heading_form, start_from, start_of};
+ghost use Rattle.line.specs.declared.Start.TheVariants as StartV;
 
 // Where a token of a line begins and ends.
 #[derive(Clone, Copy)]
@@ -117,6 +118,17 @@ pub fn is_word(token: &[u8], word: &[u8]) -> bool
 pub fn is_blank(line: &[u8]) -> bool
     ensures { result ≡ none (tokens line.now) }
 {
+    gap(line) == line.len()
+}
+
+// Whether a line is a comment or has no token, so that it is skipped. A shorter way to know it than `start_of`: texts have many such lines.
+#[tactic(auto, using(crate::proofs::Steps::comment_first, crate::proofs::Tokens::next_all, crate::proofs::Steps::start_comment, crate::proofs::Steps::start_blank))]
+pub fn is_skipped(line: &[u8]) -> bool
+    ensures { result ≡ true → start_of line.now ≡ Some StartV.Skipped }
+{
+    if line.starts_with(b"c") {
+        return true;
+    }
     gap(line) == line.len()
 }
 

@@ -2,6 +2,7 @@
 --   lack_here, lack_next, lack_none      one group of the choice, and no more
 --   Lacks, lacking_is                    the group that is given is the lowest that the choice names and the book lacks; none is given where there is none
 --   admit_refused, admit_lacks, admit_has      the three ways
+--   admitted_one                         what a result is as an answer, and the bytes that its book holds, determine it
 --   admits_read                          a book that is admitted was read
 --   choice_fits                          and the choice names groups of the book only
 --   cleared_again, cleared_over          a space that was used, cleared: what stands behind is as it was; its front was used
@@ -18,7 +19,11 @@ use lib.ListN.{length, drop, replicate, length-replicate}
 use lib.Seq.{drop-append-add, drop-drop}
 use lib.Pow.{pow_pos}
 use borrow.Author.Tests.{eq-eqb, ne_eqb, eqb-true, not-false}
-use Rattle.answer.specs.Answer.{answered, refused, ◌⇒◌, first}
+use Rattle.std.specs.Prelude.{Result, Ok, Err, IfOk}
+use Rattle.std.specs.Borrow.{Bor}
+use Rattle.answer.specs.Answer.{Answer, answered, refused, and_then, ◌⇒◌, first}
+use Rattle.answer.specs.Refusals.{answer_is}
+use Rattle.answer.specs.declared.Refusal.{Refusal}
 use Rattle.answer.specs.Space.{over}
 use Rattle.answer.proofs.Answers.{then_by, then_not, then_is, unless_none, unless_some, unless_is}
 use Rattle.answer.proofs.Tests.{first_clear, clash}
@@ -27,8 +32,10 @@ use Rattle.meaning.specs.Choice.{digit}
 use Rattle.meaning.proofs.Choices.{digit_or, digit_high}
 use Rattle.book.specs.Bytes.{most_groups}
 use Rattle.book.specs.Reading.{reading}
+use Rattle.book.specs.Check.{numbers_of, checked_is}
 use Rattle.book.specs.Clauses.{meant}
 use Rattle.book.specs.declared.accepted.Book.{Book as Found}
+use Rattle.book.proofs.Checks.{checked_one}
 use Rattle.book.proofs.Walk.{is_book}
 use Rattle.admit.specs.Admits.{lack_from, lacking, admits, work_words, zeros}
 
@@ -127,6 +134,20 @@ module _ (b : Found) (s : List ℕ) (same : b.bytes.now ≡ s) (x l : ℕ) (el :
   admit_has e =
       then_by _ (meant b) _ read_as
       ∙ unless_none _ _ (answered (meant b)) (ap (λ (b : Bool). cond (not b) 10 0) (ap (λ (k : ℕ). eqb k 0) (sym same_lack) ∙ eq-eqb l 0 e))
+
+-- ---- the contract of `admit` determines its answer
+numbers : (r : Result Found Refusal) → checked_is r ≡ and_then (answer_is meant r) (λ b. answered (numbers_of b))
+unfolding and_then
+numbers (Ok b) =
+    let v = b.variables_are in
+    let g = b.groups_are in
+    let n = b.clauses_are in
+    cc
+numbers (Err s) = refl
+
+pub admitted_one : (bytes : Bor (List ℕ)) (r r' : Result Found Refusal) → IfOk r (λ b. b.bytes ≡ bytes) → IfOk r' (λ b. b.bytes ≡ bytes) → answer_is meant r ≡ answer_is meant r' → r ≡ r'
+admitted_one bytes r r' e d p =
+    checked_one bytes r r' e d (numbers r ∙ ap (λ (a : Answer Book). and_then a (λ b. answered (numbers_of b))) p ∙ sym (numbers r'))
 
 -- ---- what `admit` found
 pub admits_read : (s : List ℕ) (x : ℕ) (b : Book) → admits s x ≡ answered b → reading s ≡ answered b

@@ -31,7 +31,7 @@ use Rattle.answer.specs.Refusals.{number_of}
 use Rattle.answer.proofs.Answers.{unless_is}
 use Rattle.answer.proofs.Refusals.{answer_one}
 
-written_one : (a b : Result ℕ Refusal) → written_is a ≡ written_is b → a ≡ b
+pub written_one : (a b : Result ℕ Refusal) → written_is a ≡ written_is b → a ≡ b
 written_one = answer_one _ (λ x y e. cc)
 
 module _ {A : Type 0} (room : ℕ) (xs : List A) where

@@ -1,4 +1,5 @@
 -- Where a number goes among rising ones, and how it is put there.
+--   place_none, place_skips, place_found, rising_skips      one turn of the search from the back
 --   place_back                the search from the back
 --   place_in                  the place is there
 --   insert_there, insert_put  putting in, by the number at that place
@@ -8,10 +9,11 @@
 --   place_inside              the place is at most their end
 --   length_put                putting in makes one more
 --   Shifted old count j       the words from j on, up to the first `count`, stand one place further
+--   shift_start, shift_next, shift_put      the shift from the back, word by word: its start, its next turn, and n put where it made room
 --   shift_end                 the shift, and n put where it made room
 -- Assumes nothing.
 use Prim.Native.Nat.{ℕ, suc, ◌+◌, ◌-◌, ◌≤◌, ◌<◌}
-use mathlib.Core.Path.{◌≡◌, refl, sym, ap, ◌∙◌}
+use mathlib.Core.Path.{◌≡◌, refl, sym, ap, ◌∙◌, subst}
 use mathlib.Core.List.{List, [], ◌∷◌, ◌++◌, append_assoc, reverse}
 use mathlib.Core.Bool.{Bool, true, false, cond}
 use native.Mathlib.Numerals.{add-one}
@@ -20,8 +22,8 @@ use Rattle.std.specs.List.{prefix_len, take_while, copy_within}
 use Rattle.std.proofs.lemmas.List.{reverse-append, reverse-reverse, length-reverse, drop-take}
 use Rattle.std.proofs.lemmas.List.Folds.{length-prefix_len}
 use native.Mathlib.Omega.{arith}
-use lib.ListN.{length, get_or, take, drop, set, take-append-drop, length-append, length-drop}
-use lib.Seq.{take-suc, set_at, length-take-le, get_or-take, take-take}
+use lib.ListN.{length, get_or, take, drop, set, take-append-drop, length-append, length-drop, drop_of_length-le, get_or-append}
+use lib.Seq.{take-suc, drop-cons, set_at, length-take-le, get_or-take, take-take}
 use borrow.Author.Tests.{lt-ltb, le-ltb, eq-eqb, ne_eqb, leb-true, leb-false}
 use Rattle.answer.specs.Space.{over}
 use Rattle.field.specs.Words.{rising}
@@ -53,6 +55,27 @@ rising_front : (b : ℕ) (xs : List ℕ) (x : ℕ) → rising b (xs ++ (x ∷ []
 unfolding rising
 rising_front b [] x e = refl
 rising_front b (w ∷ xs) x e = let r = rising_cons b w (xs ++ (x ∷ [])) e in cons_rising b w xs r.0 (rising_front w xs x r.1)
+
+pub place_none : (n : ℕ) (l : List ℕ) (k : ℕ) → k ≤ 0 → place_of (take k l) n ≡ 0
+unfolding place_of
+place_none n l k h = let e : k ≡ 0 = omega arith in ap (λ (j : ℕ). place_of (take j l) n) e
+
+-- the last of the first k words
+module _ (l : List ℕ) (k n : ℕ) (some : 0 < k) (inside : k ≤ length l) where
+  last : take k l ≡ take (k - 1) l ++ (get_or l (k - 1) 0 ∷ [])
+  last = let e : k ≡ suc (k - 1) = omega arith in ap (λ (j : ℕ). take j l) e ∙ take-suc l (k - 1) 0 (omega arith)
+
+  pub place_skips : n ≤ get_or l (k - 1) 0 → place_of (take k l) n ≡ place_of (take (k - 1) l) n
+  place_skips h = ap (λ (xs : List ℕ). place_of xs n) last ∙ place_snoc (take (k - 1) l) (get_or l (k - 1) 0) n h
+
+  pub place_found : rising 0 (take k l) ≡ true → get_or l (k - 1) 0 < n → place_of (take k l) n ≡ k
+  place_found e h =
+      let r : rising 0 (take (k - 1) l ++ (get_or l (k - 1) 0 ∷ [])) ≡ true = rw last at e in
+      let m : length (take (k - 1) l) ≡ k - 1 = length-take-le (k - 1) l (omega arith) in
+      ap (λ (xs : List ℕ). place_of xs n) last ∙ place_all 0 (take (k - 1) l) (get_or l (k - 1) 0) n r h ∙ omega (arith, m)
+
+  pub rising_skips : rising 0 (take k l) ≡ true → rising 0 (take (k - 1) l) ≡ true
+  rising_skips e = rising_front 0 (take (k - 1) l) (get_or l (k - 1) 0) (rw last at e)
 
 -- the search from the back, over the words turned round
 module _ (n : ℕ) where
@@ -167,12 +190,34 @@ module _ (old : List ℕ) (count : ℕ) (room : count < length old) where
   first_part : length (take count old) ≡ count
   first_part = length-take-le count old (omega arith)
 
+  pub shift_start : old ≡ Shifted old count count
+  shift_start =
+      let e : drop count (take count old) ≡ [] = drop_of_length-le (take count old) {i = count} (omega (arith, first_part)) in
+      sym (ap (λ (xs : List ℕ). take (suc count) old ++ (xs ++ drop (suc count) old)) e ∙ take-append-drop (suc count) old)
+
   set_in : (j a : ℕ) → j ≤ count → set (Shifted old count j) j a ≡ take j old ++ (a ∷ (drop j (take count old) ++ drop (suc count) old))
   set_in j a h =
       let r = drop j (take count old) ++ drop (suc count) old in
       ap (λ (xs : List ℕ). set (xs ++ r) j a) (take-suc old j 0 (omega arith))
       ∙ ap (λ (xs : List ℕ). set xs j a) (append_assoc (take j old) (get_or old j 0 ∷ []) r)
       ∙ set_at (take j old) (get_or old j 0) r a j (length-take-le j old (omega arith))
+
+  shift_step : (i : ℕ) → suc i ≤ count → set (Shifted old count (suc i)) (suc i) (get_or (Shifted old count (suc i)) i 0) ≡ Shifted old count i
+  shift_step i h =
+      let r = drop (suc i) (take count old) ++ drop (suc count) old in
+      let l : length (take (suc (suc i)) old) ≡ suc (suc i) = length-take-le (suc (suc i)) old (omega arith) in
+      let g : get_or (Shifted old count (suc i)) i 0 ≡ get_or old i 0 =
+      get_or-append (take (suc (suc i)) old) r 0 i (omega (arith, l)) ∙ get_or-take (suc (suc i)) old i 0 (omega arith) in
+      let d : drop i (take count old) ≡ get_or old i 0 ∷ drop (suc i) (take count old) =
+      drop-cons (take count old) i 0 (omega (arith, first_part)) ∙ ap (λ (a : ℕ). a ∷ drop (suc i) (take count old)) (get_or-take count old i 0 (omega arith)) in
+      set_in (suc i) (get_or (Shifted old count (suc i)) i 0) h
+      ∙ ap (λ (a : ℕ). take (suc i) old ++ (a ∷ r)) g
+      ∙ ap (λ (xs : List ℕ). take (suc i) old ++ (xs ++ drop (suc count) old)) (sym d)
+
+  pub shift_next : (j : ℕ) → 0 < j → j ≤ count → set (Shifted old count j) j (get_or (Shifted old count j) (j - 1) 0) ≡ Shifted old count (j - 1)
+  shift_next j h l =
+      let e : suc (j - 1) ≡ j = omega arith in
+      subst (λ (m : ℕ). set (Shifted old count m) m (get_or (Shifted old count m) (j - 1) 0) ≡ Shifted old count (j - 1)) e (shift_step (j - 1) (omega arith))
 
   shift_copy : (k : ℕ) → k ≤ count → copy_within old k count (k + 1) ≡ Shifted old count k
   shift_copy k h =
@@ -188,6 +233,16 @@ module _ (old : List ℕ) (count : ℕ) (room : count < length old) where
       let m : length (put_in k n p) ≡ suc count = omega (arith, length_put k n p (omega (arith, first_part)), first_part) in
       ap (λ (xs : List ℕ). set xs k n) (shift_copy k h)
       ∙ set_in k n h
+      ∙ ap (λ (xs : List ℕ). xs ++ (n ∷ (drop k p ++ drop (suc count) old))) (sym t)
+      ∙ sym (append_assoc (take k p) (n ∷ drop k p) (drop (suc count) old))
+      ∙ ap (λ (i : ℕ). put_in k n p ++ drop i old) (sym m)
+
+  pub shift_put : (k n : ℕ) → k ≤ count → set (Shifted old count k) k n ≡ over (put_in k n (take count old)) old
+  shift_put k n h =
+      let p = take count old in
+      let t : take k p ≡ take k old = take-take k count old h in
+      let m : length (put_in k n p) ≡ suc count = omega (arith, length_put k n p (omega (arith, first_part)), first_part) in
+      set_in k n h
       ∙ ap (λ (xs : List ℕ). xs ++ (n ∷ (drop k p ++ drop (suc count) old))) (sym t)
       ∙ sym (append_assoc (take k p) (n ∷ drop k p) (drop (suc count) old))
       ∙ ap (λ (i : ℕ). put_in k n p ++ drop i old) (sym m)

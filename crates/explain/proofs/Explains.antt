@@ -76,7 +76,7 @@ within_one None (Some m) e = let z : ◌≡◌ {A = ℕ} 0 1 = cc in absurd (ome
 within_one (Some n) None e = let z : ◌≡◌ {A = ℕ} 0 1 = cc in absurd (omega arith)
 within_one (Some n) (Some m) e = cc
 
-explained_one : (a b : Result (Option ℕ) Refusal) → explained_is a ≡ explained_is b → a ≡ b
+pub explained_one : (a b : Result (Option ℕ) Refusal) → explained_is a ≡ explained_is b → a ≡ b
 explained_one = answer_one within_is within_one
 
 pub explain_one : (a : Answer Book) (x : ℕ) (r r' : Result (Option ℕ) Refusal) (work w w' : List ℕ) → Explaining a x r work w → Explaining a x r' work w' → (r ≡ r') × (w ≡ w')

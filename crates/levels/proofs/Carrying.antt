@@ -1,4 +1,5 @@
 -- Levels after a pass, for the next one.
+--   level_above, level_aside, level_below, level_own      one level carried on, by the group at which the pass ended
 --   carry_next, carry_all    the first i levels carried on: one more, all of them
 --   length_carried           how many levels there are stays
 --   settled_settling         settled levels are not too low
@@ -32,6 +33,18 @@ use Rattle.levels.proofs.Thresholds.{apart_up_to}
 module _ (g l : ℕ) where
   by_test : (b : Bool) → leb l g ≡ b → carried_to g l ≡ cond b (min l (g - 1)) (max never l)
   by_test b e = ap (λ (b : Bool). cond b (min l (g - 1)) (max never l)) e
+
+  pub level_above : g < l → l ≤ never → never ≡ carried_to g l
+  level_above h k = let e : max never l ≡ never = omega arith in sym (by_test false (lt-leb l g h) ∙ e)
+
+  pub level_aside : g < l → never < l → l ≡ carried_to g l
+  level_aside h k = let e : max never l ≡ l = omega arith in sym (by_test false (lt-leb l g h) ∙ e)
+
+  pub level_below : l < g → l ≡ carried_to g l
+  level_below h = let e : min l (g - 1) ≡ l = omega arith in sym (by_test true (le-leb l g (omega arith)) ∙ e)
+
+  pub level_own : g ≤ l → l ≤ g → g - 1 ≡ carried_to g l
+  level_own h k = let e : min l (g - 1) ≡ g - 1 = omega arith in sym (by_test true (le-leb l g k) ∙ e)
 
 -- ---- all levels
 pub length_carried : (g : ℕ) (f : List ℕ) → length (carried g f) ≡ length f

@@ -1,4 +1,5 @@
 -- Whether a clause lets levels stand below a bound m, with what is left aside taken for granted.
+--   granted_below, granted_above      what is granted to a level: itself, and 0 above never
 --   granted_level        the granted level of a variable
 --   held_any             a body reaches the bound if one of its variables does
 --   stands_out, stands_below, stands_held      whether a clause stands: it is not in force, by its head's level, and else by its body
@@ -22,8 +23,11 @@ use Rattle.levels.proofs.Thresholds.{default_any}
 use Rattle.levels.proofs.Turns.{greatest_none, greatest_next, greatest_from}
 
 -- ---- one level
-granted_below : (l : ℕ) → l ≤ never → l ≡ granted_to l
+pub granted_below : (l : ℕ) → l ≤ never → l ≡ granted_to l
 granted_below l h = sym (ap (λ (b : Bool). cond b l 0) (le-leb l never h))
+
+pub granted_above : (l : ℕ) → never < l → 0 ≡ granted_to l
+granted_above l h = sym (ap (λ (b : Bool). cond b l 0) (lt-leb l never h))
 
 granted_at : (f : List ℕ) (i : ℕ) → get_or (granted f) i never ≡ granted_to (get_or f i never)
 unfolding granted

@@ -6,14 +6,16 @@
 --   capped                 a level that reaches the cap
 --   clause_none, clause_some, turn_less      a clause without a head changes nothing; another makes its head's level the lower one
 --   goal_other, goal_own   the least level of the goals after a clause: with a head, and without
+--   fill_all               every level is filled
 -- Assumes nothing.
 use Prim.Native.Nat.{ℕ, zero, suc, ◌+◌, ◌-◌, ◌≤◌, ◌<◌, min, max}
 use mathlib.Core.Path.{◌≡◌, sym, ap, ◌∙◌}
 use mathlib.Core.Logic.{◌≢◌}
-use mathlib.Core.List.{List, [], ◌∷◌}
+use mathlib.Core.List.{List, [], ◌∷◌, ◌++◌, append-nil}
 use mathlib.Core.Bool.{Bool, true, false, cond}
 use native.Mathlib.Omega.{arith}
-use lib.ListN.{length, get_or, set}
+use lib.ListN.{length, get_or, drop, set, replicate}
+use lib.Seq.{drop-length}
 use lib.Dec.{eqb}
 use borrow.Author.Tests.{eq-eqb, ne_eqb}
 use Rattle.meaning.specs.Book.{Clause}
@@ -92,3 +94,6 @@ module _ (kept pool : ℕ) (c : Clause) (f : List ℕ) (m : ℕ) where
   pub goal_own : c.head ≡ 0 → min m (clause_level kept pool f c) ≡ goal_level kept pool f m (c ∷ [])
   unfolding goal_level
   goal_own e = sym (ap (λ (b : Bool). cond b (min m (clause_level kept pool f c)) m) (eq-eqb c.head 0 e))
+
+pub fill_all : (i l : ℕ) (f : List ℕ) → i ≡ length f → replicate i l ++ drop i f ≡ replicate (length f) l
+fill_all i l f e = ap (λ (k : ℕ). replicate k l ++ drop k f) e ∙ ap (λ (z : List ℕ). replicate (length f) l ++ z) (drop-length f) ∙ append-nil (replicate (length f) l)

@@ -2,8 +2,8 @@
 --   found_explains, found_repairs      what a seed yields, by what is found within it
 --   Going                  on the way: the records that stand in the front of the words, and the seed that remains
 --   going_start            the records that were there
---   going_seed             a seed is a choice of the groups
---   added_reads, added_falls, going_more      one record more: it is read behind the others, what they leave lies below the seed, and so on
+--   going_long, going_reads, going_seed      the words are as many as before; the records are read from them; a seed is a choice of the groups
+--   added_long, added_reads, added_falls, going_more      one record more: it is read behind the others, what they leave lies below the seed, and so on
 --   going_done, going_full      no seed remains, and no round
 -- Assumes nothing.
 use Prim.Native.Nat.{ℕ, ◌+◌, ◌-◌, ◌*◌, ◌^◌, ◌≤◌, ◌<◌}
@@ -16,6 +16,7 @@ use native.Mathlib.Omega.{arith}
 use Rattle.std.specs.Prelude.{Some, None}
 use lib.ListN.{length, drop, length-append}
 use Rattle.answer.specs.Space.{over}
+use Rattle.answer.proofs.Spaces.{length_over}
 use Rattle.meaning.specs.Book.{Book}
 use Rattle.meaning.specs.Choice.{complement}
 use Rattle.meaning.specs.Forced.{inconsistent}
@@ -24,7 +25,7 @@ use Rattle.rounds.specs.Rounds.{seed, smallest, found, listing, complete}
 use Rattle.rounds.proofs.Seeds.{seed_lt, complete_none, complete_some}
 use Rattle.rounds.proofs.Rounds.{allowed_falls, listing_zero, listing_next, listing_still}
 use Rattle.records.specs.Words.{record_words, room, records_of, kind_of, set_of, words_of, put_record, fault}
-use Rattle.records.proofs.Words.{length_records, record_back, records_read, records_kept, record_put}
+use Rattle.records.proofs.Words.{words_length, length_records, record_back, records_read, records_kept, record_put}
 use Rattle.path.specs.Paths.{Fits}
 use Rattle.explain.specs.Explains.{explained, within_is}
 use Rattle.list.specs.Lists.{rounds, said, Adds, Rounding}
@@ -81,6 +82,12 @@ module _ (b : Book) (ws : List ℕ) (c most n : ℕ) (en : n ≡ b.groups) (h : 
       }
 
   module _ (ws' : List ℕ) (w : ℕ) (o : Option ℕ) (G : Going b ws c most ws' w o) where
+    pub going_long : length ws' ≡ length ws
+    going_long = ap length G.stands ∙ length_over (words_of G.rs) ws (omega (arith, words_length G.rs, G.counts, G.fits, h))
+
+    pub going_reads : records_of ws' w ≡ G.rs
+    going_reads = ap₂ records_of G.stands G.counts ∙ records_read G.rs (drop (length (words_of G.rs)) ws)
+
     pub going_seed : (x : ℕ) → o ≡ some x → x < 2 ^ n
     going_seed x e = subst (λ (k : ℕ). x < 2 ^ k) (sym en) (seed_lt b.groups G.rs x (sym G.next ∙ e))
 
@@ -121,6 +128,9 @@ module _ (b : Book) (ws : List ℕ) (c most n : ℕ) (en : n ≡ b.groups) (h : 
           A ∙ ap (λ (u : List ℕ). put_record u w (kind_of r) (set_of r)) G.stands
           ∙ record_put G.rs ws w (kind_of r) (set_of r) G.counts (omega (arith, G.counts, l, h)) (kind_is r)
           ∙ ap (λ (q : Record). over (words_of (G.rs ++ (q ∷ []))) ws) (record_back r)
+
+      pub added_long : length ws'' ≡ length ws
+      added_long = ap length added_stands ∙ length_over (words_of more) ws (omega (arith, words_length more, more_length, l, h))
 
       pub added_reads : records_of ws'' (w + 1) ≡ more
       added_reads = ap₂ records_of added_stands more_length ∙ records_read more (drop (length (words_of more)) ws)

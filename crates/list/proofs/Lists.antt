@@ -2,7 +2,7 @@
 --   told_no, told_listed      a refusal; the answer of the rounds
 --   whole_room                a listing's rounds: as many as records still fit
 --   listed_one, list_one      the answer determines the result; the contract of `round` and of `list` determines the answer and both spaces
---   refuses                   a call refuses exactly where the table says so, by that number and place
+--   refuses, refuses_by       a call refuses exactly where the table says so, by that number and place; the same by the refusal
 --   refusal_keeps             and then leaves both spaces as they came
 --   Tells, tells              any other answer: the count is the number of records, they are read from the words, and complete is said exactly where no seed remains
 --   round_adds, round_ended, round_full      a round writes the one record that the rule names; none where no seed or no room remains
@@ -19,7 +19,7 @@ use native.Mathlib.Omega.{arith}
 use Rattle.std.specs.Prelude.{Result, Ok, Err}
 use lib.ListN.{length, drop, length-append}
 use Rattle.answer.specs.Answer.{Answer, answered, refused, and_then}
-use Rattle.answer.specs.Refusals.{refusal_is}
+use Rattle.answer.specs.Refusals.{number_of, refusal_is}
 use Rattle.answer.specs.declared.Refusal.{Refusal}
 use Rattle.answer.specs.Space.{over}
 use Rattle.answer.proofs.Answers.{then_by, then_not, then_is}
@@ -77,15 +77,21 @@ refused_is (refused m p) f n at e = cc
 
 -- the call on the words ws, with c records there, of at most k rounds
 module _ (a : Answer Book) (k : ℕ) (r : Result Listed Refusal) (ws : List ℕ) (c : ℕ) (work ws' work' : List ℕ) (L : Listing a k r ws c work ws' work') where
-  pub refuses : (q : Refusal) → (r ≡ Err q) ↔ (a ≡ refusal_is q)
-  refuses q = (
-    (λ e. refused_is a (λ b. said b (rounds b k ws c)) _ _ (sym (ap listed_is e) ∙ L.0)),
+  pub refuses : (n at : ℕ) → (listed_is r ≡ refused n at) ↔ (a ≡ refused n at)
+  refuses n at = (
+    (λ e. refused_is a (λ b. said b (rounds b k ws c)) n at (sym e ∙ L.0)),
+    (λ e. L.0 ∙ then_not a n at _ e),
+  )
+
+  pub refuses_by : (q : Refusal) → (r ≡ Err q) ↔ (a ≡ refusal_is q)
+  refuses_by q = (
+    (λ e. (refuses (number_of q.cause) q.place).0 (ap listed_is e)),
     (λ e. listed_one r (Err q) (L.0 ∙ then_not a _ _ _ e)),
   )
 
   pub refusal_keeps : (q : Refusal) → r ≡ Err q → (ws' ≡ ws) × (work' ≡ work)
   refusal_keeps q e =
-      let d = (refuses q).0 e in
+      let d = (refuses_by q).0 e in
       (L.1 ∙ laid_refused _ ws _ _ (then_not a _ _ _ d), L.2 ∙ laid_refused _ work _ _ (then_not a _ _ _ d))
 
 -- n is the count that is answered, and m is 1 for complete and 0 for stopped

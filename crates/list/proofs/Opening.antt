@@ -16,7 +16,7 @@ use lib.Dec.{ltb}
 use lib.ListN.{length, take}
 use lib.Seq.{length-take-le}
 use borrow.Author.Tests.{lt-ltb, le-ltb, ltb-false}
-use Rattle.std.specs.Prelude.{Result, Ok, Err, IfOk}
+use Rattle.std.specs.Prelude.{Result, IfOk}
 use Rattle.std.specs.Borrow.{Bor}
 use Rattle.answer.specs.Answer.{Answer, answered, refused, and_then, ◌⇒◌, first}
 use Rattle.answer.specs.Refusals.{answer_is}
@@ -27,14 +27,13 @@ use Rattle.field.specs.Words.{Bytes}
 use Rattle.meaning.specs.Book.{Book}
 use Rattle.records.specs.Words.{record_words, room, fault}
 use Rattle.records.proofs.Words.{fault_le}
-use Rattle.book.specs.Check.{numbers_of, checked_is}
 use Rattle.book.specs.Reading.{reading}
 use Rattle.book.specs.Walk.{taken, book_of, IsBook}
 use Rattle.book.specs.Clauses.{meant}
 use Rattle.book.specs.declared.accepted.Book.{Book as Found}
-use Rattle.book.proofs.Checks.{checked_one}
 use Rattle.book.proofs.Walk.{is_book}
 use Rattle.admit.specs.Admits.{work_words}
+use Rattle.admit.proofs.Admits.{admitted_one}
 use Rattle.list.specs.Lists.{opens, lists}
 
 -- whole records stand before the place: fewer than c where it lies within the first c, and not where it is their end
@@ -93,19 +92,9 @@ pub read_as : (b : Found) (s : List ℕ) → b.bytes.now ≡ s → reading s ≡
 read_as b s same = subst (λ (t : List ℕ). reading t ≡ answered (meant b)) same (is_book b.bytes.now b.accepted).read
 
 -- ---- the contract of `open` determines its answer
-numbers : (r : Result Found Refusal) → checked_is r ≡ and_then (answer_is meant r) (λ b. answered (numbers_of b))
-unfolding and_then
-numbers (Ok b) =
-    let v = b.variables_are in
-    let g = b.groups_are in
-    let n = b.clauses_are in
-    cc
-numbers (Err s) = refl
-
 pub open_one : (a : Answer Book) (bytes : Bor (List ℕ)) (r r' : Result Found Refusal) → answer_is meant r ≡ a → IfOk r (λ b. b.bytes ≡ bytes)
     → answer_is meant r' ≡ a → IfOk r' (λ b. b.bytes ≡ bytes) → r ≡ r'
-open_one a bytes r r' p e q d =
-    checked_one bytes r r' e d (numbers r ∙ ap (λ (a : Answer Book). and_then a (λ b. answered (numbers_of b))) (p ∙ sym q) ∙ sym (numbers r'))
+open_one a bytes r r' p e q d = admitted_one bytes r r' e d (p ∙ sym q)
 
 -- ---- what an accepted call says
 pub record Opened (s ws : List ℕ) (c : ℕ) : Type 0 where

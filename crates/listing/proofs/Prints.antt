@@ -25,7 +25,7 @@ use Rattle.list.specs.Lists.{listed_is, lists, Listing}
 use Rattle.list.specs.declared.Listed.{Listed}
 use Rattle.list.specs.declared.Listed.TheVariants as ListedV
 use Rattle.list.proofs.Opening.{opens_fine, lists_goes}
-use Rattle.list.proofs.Lists.{refuses}
+use Rattle.list.proofs.Lists.{refuses_by}
 use Rattle.list.proofs.Demands.{Lists, listed}
 use Rattle.report.specs.Text.{listing_text, refusal_text}
 use Rattle.listing.specs.Prints.{answer_text, printed}
@@ -52,7 +52,7 @@ module _ (s : List ℕ) (is : IsBook s) (ws : List ℕ) (words : ℕ) (enough : 
   goes = lists_goes s ws 0 words (book_of s) (opens_fine s ws 0 (book_of s) is.read (omega arith) (book_of s).groups (fault (book_of s).groups ws 0) refl refl (omega arith)) enough
 
   pub no_refusal : (q : Refusal) → r ≡ Err q → ⊥
-  no_refusal q e = not_both _ (book_of s) q goes ((refuses _ _ r ws 0 work ws' work' L q).0 e)
+  no_refusal q e = not_both _ (book_of s) q goes ((refuses_by _ _ r ws 0 work ws' work' L q).0 e)
 
   told : (n m : ℕ) → listed_is r ≡ answered (n ∷ m ∷ []) → Lists s ws ws' n m
   told n m e = listed s is.bytes ws words r work ws' work' L n m e

@@ -2,9 +2,10 @@
 --   gather_start, gather_step, gather_end         what is gathered, group by group
 --   same_refl, same_trans, same_wider, same_set   the reasons of groups that are not free stay
 --   press_shut, press_last   all groups of a record are on its side; all but one are
---   narrows_explanation, narrows_repair      what a record decides, its last group, by its kind
+--   narrows_none, narrows_explanation, narrows_repair      what a record decides: nothing, or its last group, by its kind
 --   record_shut, record_last      the same, as pressing answers it
 --   then_same, narrows_then, closing_then      one record after the other
+--   closing_same             the reasons of groups that are not free stay, whatever is answered
 -- Assumes nothing.
 use Prim.Native.Nat.{ℕ, ◌+◌, ◌-◌, ◌^◌, ◌≤◌, ◌<◌}
 use mathlib.Core.Path.{◌≡◌, refl, sym, ap, ◌∙◌, subst}
@@ -87,6 +88,9 @@ module _ (n set side free : ℕ) where
       apart (inr i) = ap (λ (x : ℕ). digit x g) (let q : bit_and set side ≡ set - 2 ^ g = omega (arith, whole) in q) ∙ less_same set g i
 
 module _ (n : ℕ) (Fit : ℕ → Type 0) (set taken left free : ℕ) (why : List ℕ) (P : Parts n taken left free) where
+  pub narrows_none : Narrows n Fit taken left free why free taken left why
+  narrows_none = record { parts = P; fewer = omega arith; inside = λ g d. d; reasons = λ held R. R }
+
   module _ (g : ℕ) (h : n ≤ length why) where
     pub narrows_explanation : Bars Fit set 1 → Last n set taken free g
         → Narrows n Fit taken left free why (free - 2 ^ g) taken (left + 2 ^ g) (lib.ListN.set why g (gathered why (bit_and set taken) n))
@@ -129,6 +133,10 @@ module _ (n : ℕ) (Fit : ℕ → Type 0) (taken left free : ℕ) (why : List �
   pub closing_then : (r : Result Sides ℕ) (after : List ℕ) → Closing n Fit t l f mid r after → Closing n Fit taken left free why r after
   closing_then (Err c) after p = (then_same after p.0, λ held R. p.1 held (N.reasons held R))
   closing_then (Ok s) after p = (then_same after p.0, narrows_then s.free s.taken s.left after p.1)
+
+pub closing_same : (n : ℕ) (Fit : ℕ → Type 0) (taken left free : ℕ) (why : List ℕ) (r : Result Sides ℕ) (after : List ℕ) → Closing n Fit taken left free why r after → Same free why after
+closing_same n Fit taken left free why (Err c) after p = p.0
+closing_same n Fit taken left free why (Ok s) after p = p.0
 
 -- ---- the same, as pressing answers it
 module _ (n : ℕ) (Fit : ℕ → Type 0) (set : ℕ) (s : Sides) (why after : List ℕ) (P : Parts n s.taken s.left s.free) where

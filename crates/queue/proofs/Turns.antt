@@ -66,7 +66,7 @@ settling_turn : (b : Book) (kept pool : ℕ) (c : Clause) (f : List ℕ) → Apa
 settling_turn b kept pool c f A m S t h = subst (Partly b (up_to kept pool t)) (sym (turn_at kept pool A t h c f)) (partly_mark b (up_to kept pool t) (marks_at t f) c m (S t h))
 
 module _ (b : Found) (kept pool : ℕ) (w w' : List ℕ) (R : Prepared b.bytes.now kept pool w) where
-  kept_step : (c : Clause) → Apart kept pool → Memᴰ c (meant b).clauses → Stepped kept pool b.variables b.clauses c w w' → Kept b.bytes.now kept pool w w'
+  pub kept_step : (c : Clause) → Apart kept pool → Memᴰ c (meant b).clauses → Stepped kept pool b.variables b.clauses c w w' → Kept b.bytes.now kept pool w w'
   kept_step c A i T =
       kept_by _ _ _ (sized b) kept pool w w' R kept pool T.beside
       (subst (Settling (meant b) kept pool) (sym T.levels) (settling_turn (meant b) kept pool c (take b.variables w) A i (front_levels _ _ _ (sized b) kept pool w R)))

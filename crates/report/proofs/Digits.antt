@@ -18,7 +18,7 @@ use Rattle.decimal.proofs.Digits.{number_length}
 use Rattle.meaning.proofs.Choices.{digit_of}
 use Rattle.report.specs.Text.{numbers, groups_in, groups_of, member}
 
-groups_none : (f g : ℕ) → groups_in f g 0 ≡ []
+pub groups_none : (f g : ℕ) → groups_in f g 0 ≡ []
 unfolding groups_in
 groups_none zero g = refl
 groups_none (suc f) g = groups_none f (g + 1)
@@ -37,7 +37,7 @@ numbers_turn f g x = go (eqb (x % 2) 1)
     go true = refl
     go false = refl
 
-groups_more : (g x : ℕ) → numbers (groups_in x g x) ≡ cond (eqb (x % 2) 1) (after g) [] ++ numbers (groups_in (x / 2) (g + 1) (x / 2))
+pub groups_more : (g x : ℕ) → numbers (groups_in x g x) ≡ cond (eqb (x % 2) 1) (after g) [] ++ numbers (groups_in (x / 2) (g + 1) (x / 2))
 unfolding numbers groups_in
 groups_more g zero = refl
 groups_more g (suc y) =

@@ -8,10 +8,10 @@
 --   held_fits                       its groups above g, with g, are a choice of the groups
 --   along_parts, along_reasons      the path along the last seed down to a group of it
 --   whole_parts, whole_reasons      the path along all of the last seed
---   ruled_start, clear_end          no choice contains the last seed; where none agrees from the last group on, none fits
+--   clear_start, ruled_start, clear_end      no choice agrees with the last seed, or contains it; where none agrees from the last group on, none fits
 --   clear_other, clear_tried        from g to the next group: g is not in the last seed; no choice that contains the groups above g fits
 --   found_below                     a choice found below is the largest that fits
---   along_next, along_same, along_after, tries_ruled, tries_sought      the same, as code goes
+--   along_more, along_next, along_same, along_after, tries_ruled, tries_sought      the same, as code goes
 -- Assumes nothing.
 use Prim.Native.Nat.{ℕ, suc, ◌+◌, ◌-◌, ◌*◌, ◌/◌, ◌%◌, ◌^◌, ◌≤◌, ◌<◌}
 use mathlib.Core.Path.{◌≡◌, sym, ap, ◌∙◌, subst}
@@ -20,7 +20,7 @@ use mathlib.Core.List.{List}
 use mathlib.Core.Option.{some, none}
 use mathlib.Core.Bool.{Bool, true, false, cond}
 use native.Mathlib.Omega.{arith}
-use native.Mathlib.Nat.{mod-lt, div-eq_of_lt, add-zero}
+use native.Mathlib.Nat.{mod-lt, div-one, div-eq_of_lt, add-zero}
 use native.Mathlib.Decide.{ℕ_discrete}
 use lib.Bits.{bit_and}
 use lib.Pow.{pow_pos, split}
@@ -259,6 +259,9 @@ module _ (n last : ℕ) (h : last < 2 ^ n) where
 
 -- ---- from one group to the next
 module _ (Fit : ℕ → Type 0) (last : ℕ) (falls : (z : ℕ) → Fit z → z < last) where
+  pub clear_start : Clear Fit last 0
+  clear_start z f e = omega (arith, falls z f, e, div-one z, div-one last)
+
   pub ruled_start : (z : ℕ) → Fit z → Inside last z → ⊥
   ruled_start z f i = omega (arith, falls z f, inside_le last z i)
 
@@ -283,6 +286,13 @@ pub clear_end : (n : ℕ) (rs : List Record) (last : ℕ) → last < 2 ^ n → C
 clear_end n rs last h C z f = C z f (div-eq_of_lt f.0 ∙ sym (div-eq_of_lt h))
 
 -- ---- as code goes
+pub along_more : (last g r : ℕ) (why : List ℕ) → ((j : ℕ) → j < g → get_or why j 0 ≡ reason_of last j) → g < length why → r ≡ reason_of last g → (j : ℕ) → j < g + 1 → get_or (set why g r) j 0 ≡ reason_of last j
+along_more last g r why f h e j l = go (ℕ_discrete j g)
+  where
+    go : Dec (j ≡ g) → get_or (set why g r) j 0 ≡ reason_of last j
+    go (yes q) = ap (λ (k : ℕ). get_or (set why g r) k 0) q ∙ get_or-set_same why g r 0 h ∙ e ∙ ap (reason_of last) (sym q)
+    go (no o) = get_or-set_other why g j r 0 o ∙ f j (omega arith)
+
 pub along_next : (last n g : ℕ) (why : List ℕ) → Along last n g why → Along last n (suc g) why
 along_next last n g why A j h l = A j (omega arith) l
 

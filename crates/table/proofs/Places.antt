@@ -1,6 +1,7 @@
 -- A clause at its place in the book.
 --   place_of          a place that the table has
 --   place_inside      it is inside the book
+--   place_walk        a walk can go on from it
 --   Here, here        the clause that stands there
 --   here_next         the place of the next one
 --   here_first        it is the first of those that are left there
@@ -20,7 +21,7 @@ use Rattle.book.specs.Bytes.{GoodClause, GoodClauses, clause_bytes, clauses_byte
 use Rattle.book.specs.Reading.{clause_of}
 use Rattle.book.specs.Walk.{book_of, IsBook}
 use Rattle.book.specs.declared.accepted.Book.{Book}
-use Rattle.book.proofs.Walk.{well_formed, is_book, later, Stands, stands}
+use Rattle.book.proofs.Walk.{well_formed, is_book, later, Stands, stands, Walk}
 use Rattle.marks.specs.Fits.{Fits}
 use Rattle.marks.proofs.Walks.{good_fits}
 use Rattle.table.specs.Table.{Sized, Placed, Prepared, Laid}
@@ -46,6 +47,14 @@ place_of s v m S kept pool w R i l = subst (λ (k : ℕ). Placed s (get_or w (k 
 
 pub place_inside : (s : List ℕ) (at i : ℕ) → Placed s at i → at ≤ length s
 place_inside s at i P = omega (arith, clauses_some (drop i (book_of s).clauses), ap length P, length-drop at s)
+
+pub place_walk : (s : List ℕ) → IsBook s → (at i : ℕ) → Placed s at i
+    → Walk (book_of s).variables (book_of s).groups (take (length s - at) (drop at s)) (drop i (book_of s).clauses)
+place_walk s is at i P =
+    record {
+      bytes = P ∙ sym (part_end s at);
+      good = good_drop (book_of s).variables (book_of s).groups (book_of s).clauses i (well_formed s is).good;
+    }
 
 -- the clause of number i stands at `at`
 pub record Here (s : List ℕ) (at i : ℕ) : Type 0 where

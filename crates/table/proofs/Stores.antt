@@ -1,5 +1,5 @@
 -- Stores in the working space of a book, and what they leave as it was.
---   fresh_next                    one more variable without a level
+--   fresh_none, fresh_next, fresh_all      variables without a level: none of them, one more, all
 --   kept_none, kept_on            no step, and steps after steps
 --   sized                         a book has the numbers that it tells
 --   small, room                   an accepted book is no larger than the space
@@ -10,7 +10,7 @@
 --   kept_front                    ... are a step where they are levels of which none is too low
 --   kept_laid                     the steps may begin where no variable has a level and the table is laid
 --   kept_after                    steps after stores among the lists
---   laid                          the table of a space that is ready
+--   laid, laid_on                 the table of a space that is ready, and after stores among the lists
 -- Assumes nothing.
 use Prim.Native.Nat.{ℕ, ◌+◌, ◌≤◌, ◌<◌}
 use mathlib.Core.Path.{◌≡◌, refl, sym, ap, ◌∙◌, subst}
@@ -30,8 +30,11 @@ use Rattle.lists.specs.Space.{Small, Room, Beside, Changes, Aside}
 use Rattle.lists.proofs.Stores.{beside_on, changes_front, front_long}
 use Rattle.table.specs.Table.{Sized, Places, Prepared, Kept, Fresh, Tabled, Laid}
 
--- ---- one more variable without a level
+-- ---- variables without a level
 module _ (v m : ℕ) where
+  pub fresh_none : (w : List ℕ) → Fresh 0 v m w w
+  fresh_none w = record { levels = λ i h. absurd (omega arith); beside = record { places = λ i h. refl; rest = refl; long = refl } }
+
   pub fresh_next : (w₀ w : List ℕ) (n a : ℕ) → Room v m w₀ → n < v → never ≤ a → Fresh n v m w₀ w → Fresh (n + 1) v m w₀ (set w n a)
   fresh_next w₀ w n a R l high F =
       let front : take v (set w n a) ≡ set (take v w) n a = take-set-lt v w n a l in
@@ -49,6 +52,9 @@ module _ (v m : ℕ) where
       go : (i : ℕ) → i < n + 1 → n < length (take v w) → Dec (i < n) → never ≤ get_or (set (take v w) n a) i 0
       go i h long (yes k) = omega (arith, F.levels i k, get_or-set_other (take v w) n i a 0 (λ e. omega arith))
       go i h long (no k) = let e : i ≡ n = omega arith in rw e (omega (arith, get_or-set_same (take v w) n a 0 long))
+
+  pub fresh_all : (w₀ w : List ℕ) (n : ℕ) → v ≤ n → Fresh n v m w₀ w → Fresh v v m w₀ w
+  fresh_all w₀ w n l F = record { levels = λ i h. F.levels i (omega arith); beside = F.beside }
 
 -- ---- steps
 module _ (s : List ℕ) (kept pool : ℕ) where
@@ -131,3 +137,7 @@ module _ (s : List ℕ) (v m : ℕ) (S : Sized s v m) where
         room = R.room;
         places = subst (λ (k : ℕ). Places s k m w) (sym S.variables) (subst (λ (k : ℕ). Places s (book_of s).variables k w) (sym S.clauses) R.places);
       }
+
+pub laid_on : (s : List ℕ) (v m : ℕ) (w w' : List ℕ) → Laid s v m w → Aside v m w w' → Laid s v m w'
+laid_on s v m w w' L A =
+    record { size = L.size; room = omega (arith, L.room, A.beside.long); places = λ c h. rw (A.beside.places c h) (L.places c h) }

@@ -51,7 +51,7 @@ high_capped m x s = go (ltb m x) refl
     go true e = let h = ltb-true m x e in lt-ltb m (cap x) (omega (arith, h, s))
     go false e = let h = ltb-false m x e in le-ltb m (cap x) (omega (arith, h))
 
-abbrev numbers : ℕ → ℕ → ℕ → Heading
+abbrev pub numbers : ℕ → ℕ → ℕ → Heading
 numbers v n g = record { variables = v; clauses = n; groups = g }
 
 tests_capped : (v n g : ℕ) → first (heading_tests (cap v) (cap n) (cap g)) ≡ first (heading_tests v n g)
@@ -70,7 +70,7 @@ module _ (h : Heading) (i next : ℕ) where
   unfolding heading_of
   heading_none e = sym (unless_none _ i _ e)
 
-heading_capped : (v n g i next : ℕ) → heading_of (numbers (cap v) (cap n) (cap g)) i next ≡ heading_of (numbers v n g) i next
+pub heading_capped : (v n g i next : ℕ) → heading_of (numbers (cap v) (cap n) (cap g)) i next ≡ heading_of (numbers v n g) i next
 heading_capped v n g i next = go (first (heading_tests v n g)) refl
   where
     go : (k : ℕ) → first (heading_tests v n g) ≡ k → heading_of (numbers (cap v) (cap n) (cap g)) i next ≡ heading_of (numbers v n g) i next

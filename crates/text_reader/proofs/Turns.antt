@@ -21,11 +21,11 @@ use Rattle.line.proofs.Tokens.{run_bound, pieces_last, pieces_run}
 use Rattle.text_reader.specs.Steps.{past_of, line_size, after_line}
 
 module _ (t : List ℕ) (n : ℕ) where
-  past_feed : n < length t → n + 1 ≡ past_of t n
+  pub past_feed : n < length t → n + 1 ≡ past_of t n
   unfolding past_of
   past_feed h = rw (lt-ltb n (length t) h)
 
-  past_last : length t ≤ n → n ≡ past_of t n
+  pub past_last : length t ≤ n → n ≡ past_of t n
   unfolding past_of
   past_last h = rw (le-ltb n (length t) h)
 

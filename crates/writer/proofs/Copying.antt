@@ -5,7 +5,7 @@
 --   Copying                     the invariant of `put_clauses`: t is the plain form of the clauses that are left
 --   Copy, copy                  what it says at a clause
 --   copy_room, copy_next        there is room for the clause; its next turn
---   copy_scanned                a scan finds nothing wrong
+--   copy_scanned, copy_none     a scan finds nothing wrong
 --   copy_last, copy_end         at the end: there is room for it, and all is written
 -- Assumes nothing.
 use Prim.Native.Nat.{ℕ, zero, suc, ◌+◌, ◌-◌, ◌*◌, ◌%◌, ◌≤◌, ◌<◌}
@@ -19,7 +19,7 @@ use lib.Seq.{drop-cons, take_at}
 use Rattle.std.specs.Prelude.{map, Result, Ok, Err}
 use Rattle.std.proofs.Math.Numerals.{add-one}
 use Rattle.std.proofs.lemmas.List.{length-map}
-use Rattle.answer.specs.Answer.{answered}
+use Rattle.answer.specs.Answer.{answered, refused}
 use Rattle.answer.specs.Refusals.{answer_is}
 use Rattle.answer.specs.declared.Refusal.{Refusal}
 use Rattle.answer.specs.Space.{Wrote}
@@ -203,6 +203,14 @@ module _ (v g : ℕ) (all : List Clause) (size : ℕ) (out₀ out : List ℕ) (t
     copy_scanned r q =
         let e = scanned_of v g p.variables p.groups i x u p.left (p.same ∙ is) p.good in
         (record { head = e.0.head; count = 0 + length e.0.body; next = e.0.next }, ok_of r _ (q ∙ ap (scan_of 0) e.1))
+
+    pub copy_none : (n q : ℕ) → refused n q ≡ scan_of 0 (literals_at v 0 0 0 (i + 1) u) → ⊥
+    unfolding scan_of
+    copy_none n q r =
+        let e = scanned_of v g p.variables p.groups i x u p.left (p.same ∙ is) p.good in
+        let w : refused n q ≡ scan_of 0 (answered e.0) = r ∙ ap (scan_of 0) e.1 in
+        let z : ◌≡◌ {A = ℕ} 0 1 = cc in
+        omega arith
 
     module _ (s : Scanned) (q : answered s ≡ scan_of 0 (literals_at v 0 0 0 (i + 1) u)) where
       pub copy : Copy v g x u i p.left s

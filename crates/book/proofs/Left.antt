@@ -1,7 +1,8 @@
 -- What is left of a book's clauses, byte by byte.
+--   split        a number is below another, or it is not
 --   left_short, left_step, walks_step      where no clause can stand, and at a clause
---   next_left, next_walks        behind the clause
---   first_groups, first_body     the parts of the field that stands first spell its clause
+--   behind, next_left, next_walks      behind the clause
+--   first_groups, first_body, parts_spell      the parts of the field that stands first spell its clause
 --   left_walk                    what is left where the clauses of an accepted book stand
 -- Assumes nothing.
 use Prim.Native.Nat.{ℕ, zero, suc, ◌-◌, ◌≤◌, ◌<◌}
@@ -18,11 +19,11 @@ use Rattle.field.specs.Words.{words}
 use Rattle.field.specs.Field.{len, size, after}
 use Rattle.field.proofs.Parts.{part_end}
 use Rattle.field.proofs.Words.{words_two}
-use Rattle.meaning.specs.Book.{Clause}
-use Rattle.book.specs.Reading.{group_of, body_part, clause_of}
+use Rattle.meaning.specs.Book.{Clause, clause_from}
+use Rattle.book.specs.Reading.{group_of, head_of, body_part, clause_of}
 use Rattle.book.specs.Walk.{walks, left}
 
-split : (m n : ℕ) → (m < n) ⊎ (n ≤ m)
+pub split : (m n : ℕ) → (m < n) ⊎ (n ≤ m)
 split m zero = inr (omega arith)
 split zero (suc n) = inl (omega arith)
 split (suc m) (suc n) = elim (split m n) [ inl h ↦ inl (omega (arith, h)) | inr h ↦ inr (omega (arith, h)) ]
@@ -94,7 +95,7 @@ module _ (r : List ℕ) (long : 7 ≤ length r) where
 
 -- the part behind the field that stands first
 module _ (r : List ℕ) (n : ℕ) (is : n ≡ size r) where
-  behind : take (length r - n) (drop n r) ≡ after r
+  pub behind : take (length r - n) (drop n r) ≡ after r
   behind = part_end r n ∙ ap (λ (k : ℕ). drop k r) is
 
   pub next_left : 7 ≤ length r → (c : Clause) → c ≡ clause_of r → left (length r) r ≡ c ∷ left (length (take (length r - n) (drop n r))) (take (length r - n) (drop n r))
@@ -110,3 +111,13 @@ module _ (r : List ℕ) (long : 7 ≤ size r) (fits : size r ≤ length r) where
 
   pub first_body : (n : ℕ) → n ≡ size r → words (take (n - 7) (drop 7 r)) ≡ words (body_part r)
   first_body n e = let cut : n - 7 ≡ len r - 4 = omega (arith, e) in ap (λ (k : ℕ). words (take k (drop 7 r))) cut
+
+  -- ... and so does whatever is the same as these parts
+  pub parts_spell : (gs : List ℕ) (h : ℕ) (ws : List ℕ) → gs ≡ take 2 (drop 3 r) → h ≡ head_of r → ws ≡ take (size r - 7) (drop 7 r)
+      → clause_from (words gs) h (words ws) ≡ clause_of r
+  parts_spell gs h ws a b c =
+      ap (λ (s : List ℕ). clause_from (words s) h (words ws)) a
+      ∙ ap (λ (s : List ℕ). clause_from s h (words ws)) first_groups
+      ∙ ap (λ (n : ℕ). clause_from (group_of r ∷ []) n (words ws)) b
+      ∙ ap (λ (s : List ℕ). clause_from (group_of r ∷ []) (head_of r) (words s)) c
+      ∙ ap (λ (s : List ℕ). clause_from (group_of r ∷ []) (head_of r) s) (first_body _ refl)

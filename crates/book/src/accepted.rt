@@ -4,6 +4,7 @@ ghost use Rattle.std.specs.Prelude.{◌≡◌, ◌+◌, ◌≤◌, true, length}
 ghost use Rattle.book.specs.Walk.{book_of, is_accepted, walks};
 
 use crate::first::first_clause;
+use crate::front::{Front, front_of};
 
 // An accepted book: its bytes, and how many variables, groups and clauses it has.
 #[derive(Clone, Copy)]
@@ -35,6 +36,7 @@ pub struct Clauses<'a> {
 }
 
 impl<'a> Book<'a> {
+    ghost use Rattle.std.specs.Prelude.{drop};
     ghost use Rattle.book.specs.Walk.{IsBook};
     ghost use Rattle.book.specs.Clauses.{meant, clauses_left};
 
@@ -48,7 +50,8 @@ impl<'a> Book<'a> {
 
     // Its clauses, one after the other.
     pub fn walk(&self) -> Clauses<'a>
-        ensures { clauses_left result ≡ (meant self.now).clauses }
+        ensures left { clauses_left result ≡ (meant self.now).clauses }
+        ensures rest { result.rest.now ≡ drop 7 self.now.bytes.now }
     {
         Clauses {
             rest: &self.bytes[7..],
@@ -71,19 +74,19 @@ impl<'a> Clause<'a> {
 impl<'a> Iterator for Clauses<'a> {
     type Item = Clause<'a>;
 
-    ghost use Rattle.std.specs.Iterator.{YieldsFirstBy, item_count};
-    ghost use Rattle.book.specs.Clauses.{clause_is, clauses_left};
+    ghost use Rattle.std.specs.Iterator.{item_count};
+    ghost use Rattle.book.specs.Clauses.{clauses_left, GivesFirst};
 
-    ghost next_gives = { YieldsFirstBy clause_is clauses_left };
+    ghost next_gives = { GivesFirst };
 
     ghost remaining = { item_count clauses_left };
 
     fn next(&mut self) -> Option<Clause<'a>> {
-        if self.rest.len() < 7 {
+        let Front::Clause { size, .. } = front_of(self.rest) else {
             return None;
-        }
+        };
         let clause = first_clause(self.rest);
-        self.rest = &self.rest[field::size_of(self.rest)..];
+        self.rest = &self.rest[size..];
         Some(clause)
     }
 }

@@ -1,4 +1,4 @@
-// The clause whose field stands first in some bytes: where its parts lie.
+// The clause whose field stands first in some bytes.
 
 ghost use Rattle.std.specs.Prelude.{◌≡◌, ◌+◌, ◌-◌, ◌≤◌, length, take, drop};
 ghost use Rattle.field.specs.Field.{size};
@@ -6,6 +6,7 @@ ghost use Rattle.book.specs.Reading.{clause_of};
 ghost use Rattle.book.specs.Clauses.{clause_is};
 
 use crate::accepted::Clause;
+use crate::front::{Front, front_of};
 
 pub fn first_clause(rest: &[u8]) -> Clause<'_>
     requires { (7 ≤ size rest.now) × (size rest.now ≤ length rest.now) }
@@ -14,9 +15,15 @@ pub fn first_clause(rest: &[u8]) -> Clause<'_>
     ensures groups { result.groups.now ≡ take 2 (drop 3 rest.now) }
     ensures body { result.body.now ≡ take (size rest.now - 7) (drop 7 rest.now) }
 {
-    Clause {
-        groups: &rest[3..5],
-        head: field::word_at(rest, 5),
-        body: &rest[7..field::size_of(rest)],
-    }
+    let Front::Clause {
+        groups,
+        head,
+        body,
+        size,
+    } = front_of(rest)
+    else {
+        unreachable!()
+    };
+    let (groups, body) = (&rest[groups..body - 2], &rest[body..size]);
+    Clause { groups, head, body }
 }

@@ -30,7 +30,7 @@ pub fn put_number(n: usize, out: &mut [u8], at: usize) -> usize
     requires { at + length (number n) ≤ length out.old }
     ensures { Wrote out.old at (number n) out.new result }
 {
-    // most numbers of a book are short
+    // a number of one digit is that digit
     if n < 10 {
         return put_byte(b'0' + n as u8, out, at);
     }

@@ -13,6 +13,7 @@
 --   rest_after         the tokens of what follows a place
 --   comment_first      a comment begins with c
 --   start_comment, start_blank      a comment, and a line with no token, is skipped
+--   skipped_blank      a line that is skipped, and no comment, has no token
 -- Assumes nothing.
 use Prim.Native.Nat.{ℕ, zero, suc, ◌-◌, ◌<◌}
 use mathlib.Core.Path.{◌≡◌, refl, sym, ap, ◌∙◌}
@@ -27,7 +28,7 @@ use Rattle.std.specs.Cmp.Lexicographic.{pointwise}
 use Rattle.std.specs.Prelude.{Option, None, Some}
 use Rattle.std.specs.Option.{option_map, option_and_then, option_map_or}
 use Rattle.field.proofs.Parts.{part_end}
-use Rattle.text.specs.Lines.{minus_sign, open_brace, close_brace, letter_c, gcnf_word, tokens, same, is_digit, all_digits, digits, value, is_minus, is_zero, is_group}
+use Rattle.text.specs.Lines.{minus_sign, open_brace, close_brace, letter_c, p_word, gcnf_word, tokens, same, is_digit, all_digits, digits, value, is_minus, is_zero, is_group}
 use Rattle.text.specs.Forms.{heading, formless, none, counts_line, heading_line, is_comment}
 use Rattle.line.specs.Tokens.{next_of, cap, spelt}
 use Rattle.line.specs.Starts.{token_in, group_in, literal_from, next_count, by_number, groups_form, clauses_form, heading_form, start_from, start_of}
@@ -35,7 +36,6 @@ use Rattle.line.specs.declared.Token.{Token}
 use Rattle.line.specs.declared.Literal.{Literal}
 use Rattle.line.specs.declared.Literal.TheVariants as LiteralV
 use Rattle.line.specs.declared.Heading.{Heading}
-use Rattle.line.specs.declared.Start.{Start}
 use Rattle.line.specs.declared.Start.TheVariants as StartV
 use Rattle.line.proofs.Tokens.{next_none, next_token}
 
@@ -202,3 +202,23 @@ start_blank l e = go (is_comment l)
     go : (t : Bool) → cond t (Some StartV.Skipped) (option_map_or (λ t. start_from (token_in l t) t.end l) (next_of l) (Some StartV.Skipped)) ≡ Some StartV.Skipped
     go true = refl
     go false = ap (λ x. option_map_or (λ t. start_from (token_in l t) t.end l) x (Some StartV.Skipped)) (sym e)
+
+-- a line that begins with a token is not skipped
+token_starts : (l w : List ℕ) (n : ℕ) → start_from w n l ≡ Some StartV.Skipped → ⊥
+unfolding start_from
+token_starts l w n e = go (same w p_word) (heading_form (heading_line (tokens (drop n l)))) (group_in w) e
+  where
+    go : (b : Bool) (h : Option Heading) (g : Option ℕ)
+        → cond b (option_map StartV.Heading h) (option_map (λ k. StartV.Clause k n) g) ≡ Some StartV.Skipped → ⊥
+    go true None g q = cc
+    go true (Some h) g q = cc
+    go false h None q = cc
+    go false h (Some k) q = cc
+
+pub skipped_blank : (l : List ℕ) → is_comment l ≡ false → start_of l ≡ Some StartV.Skipped → next_of l ≡ None
+unfolding start_of
+skipped_blank l c e = go (next_of l) refl (sym (ap (λ b. cond b (Some StartV.Skipped) (option_map_or (λ t. start_from (token_in l t) t.end l) (next_of l) (Some StartV.Skipped))) c) ∙ e)
+  where
+    go : (x : Option Token) → next_of l ≡ x → option_map_or (λ t. start_from (token_in l t) t.end l) x (Some StartV.Skipped) ≡ Some StartV.Skipped → next_of l ≡ None
+    go None q k = q
+    go (Some t) q k = absurd (token_starts l (token_in l t) t.end k)

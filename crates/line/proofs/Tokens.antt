@@ -6,7 +6,7 @@
 --   none_gap                   a line has no token where it is all gap
 --   next_all, next_fits, next_some      the first token of a line, as code finds it
 --   First l t                  the first token of l is in the place t: it is not empty, it lies in l, and the other tokens follow it
---   next_none, next_token      the tokens of a line by its first: none, or that one
+--   next_none, all_next, next_token      the tokens of a line by its first: none, and the line is all gap, or that one
 -- Assumes nothing.
 use Prim.Native.Nat.{ℕ, suc, ◌+◌, ◌-◌, ◌≤◌, ◌<◌}
 use mathlib.Core.Path.{◌≡◌, refl, sym, ap, ◌∙◌, subst}
@@ -201,6 +201,14 @@ module _ (l : List ℕ) where
     where
       go : (b : Bool) → eqb (gap_of l) (length l) ≡ b → found b ≡ None → tokens l ≡ []
       go true t p = all_gap (eqb-true _ _ t)
+      go false t p = cc
+
+  pub all_next : next_of l ≡ None → gap_of l ≡ length l
+  unfolding next_of
+  all_next e = go (eqb (gap_of l) (length l)) refl e
+    where
+      go : (b : Bool) → eqb (gap_of l) (length l) ≡ b → found b ≡ None → gap_of l ≡ length l
+      go true t p = eqb-true _ _ t
       go false t p = cc
 
   pub record First (t : Token) : Type 0 where

@@ -5,7 +5,7 @@ use native.Mathlib.Omega.{arith}
 use lib.ListN.{length}
 use Rattle.std.proofs.Common.{rules}
 use Rattle.book.specs.Clauses.{meant, clause_is, clauses_left}
-use Rattle.book.proofs.Chains.{sum_fits, sum_is}
+use Rattle.book.proofs.Chains.{sum_fits, sum_is, walk_yields}
 use Rattle.plain.specs.Plain.{plain_clauses}
 use Rattle.reader.proofs.Reading.{plain_length}
 use Rattle.reader.proofs.Walks.{clauses_joined, clauses_most}
@@ -14,11 +14,11 @@ use Rattle.reader.proofs.plain_length.Goals.{After-sum}
 
 pub sum-requires-clause-fits : goal.sum-requires-clause-fits
 sum-requires-clause-fits c =
-    sum_fits _ _ clauses_joined clause_is clauses_left _ _ (ap clauses_left c.map.ensures.source ∙ c.walk.ensures) c.map.ensures.closure (λ x r q k. search rules) _
+    sum_fits _ _ clauses_joined clause_is _ _ (walk_yields _ (ap clauses_left c.map.ensures.source ∙ c.walk.ensures.left)) c.map.ensures.closure (λ x r q k. search rules) _
     (omega (arith, clauses_most c.args.book.now))
 
 total : (c : After-sum) → c.sum.result ≡ length (plain_clauses (meant c.args.book.now).clauses)
-total c = sum_is _ _ clauses_joined clause_is clauses_left _ _ (ap clauses_left c.map.ensures.source ∙ c.walk.ensures) c.map.ensures.closure (λ x r q k. search rules) _ c.sum.ensures.ran
+total c = sum_is _ _ clauses_joined clause_is _ _ (walk_yields _ (ap clauses_left c.map.ensures.source ∙ c.walk.ensures.left)) c.map.ensures.closure (λ x r q k. search rules) _ c.sum.ensures.ran
 
 pub overflow_add-result : goal.overflow_add-result
 overflow_add-result c = omega (arith, total c, clauses_most c.args.book.now)

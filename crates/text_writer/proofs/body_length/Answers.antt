@@ -3,6 +3,7 @@
 use mathlib.Core.Path.{ap, ◌∙◌}
 use native.Mathlib.Omega.{arith}
 use Rattle.std.proofs.Common.{rules}
+use Rattle.std.proofs.lemmas.Iterator.Consumers.{YieldsList-from_first}
 use Rattle.field.specs.Left.{words_left}
 use Rattle.book.proofs.Chains.{sum_fits, sum_is}
 use Rattle.text_writer.proofs.Putting.{body_joined}
@@ -10,7 +11,7 @@ use Rattle.text_writer.proofs.body_length.Goals as goal
 
 pub sum-requires-clause-fits : goal.sum-requires-clause-fits
 sum-requires-clause-fits c =
-    sum_fits _ _ body_joined (λ w. w) words_left _ _ (ap words_left c.map.ensures.source ∙ c.words_of.ensures) c.map.ensures.closure (λ x r q k. search rules) _ (omega (arith, c.requires))
+    sum_fits _ _ body_joined (λ w. w) _ _ (YieldsList-from_first (λ w. w) words_left _ (ap words_left c.map.ensures.source ∙ c.words_of.ensures)) c.map.ensures.closure (λ x r q k. search rules) _ (omega (arith, c.requires))
 
 pub returns : goal.returns
-returns c = sum_is _ _ body_joined (λ w. w) words_left _ _ (ap words_left c.map.ensures.source ∙ c.words_of.ensures) c.map.ensures.closure (λ x r q k. search rules) _ c.sum.ensures.ran
+returns c = sum_is _ _ body_joined (λ w. w) _ _ (YieldsList-from_first (λ w. w) words_left _ (ap words_left c.map.ensures.source ∙ c.words_of.ensures)) c.map.ensures.closure (λ x r q k. search rules) _ c.sum.ensures.ran

@@ -3,7 +3,7 @@
 ghost use Rattle.std.specs.Prelude.{◌≡◌};
 ghost use Rattle.book.specs.Front.{front_of as front};
 
-// What stands first in some bytes: a clause, or the end of a book. Of a clause: its groups are the numbers from `groups` to the head, which stands before
+// What stands first in the bytes of an accepted book, after the header. Of a clause: its groups are the numbers from `groups` to the head, which stands before
 // `body`; its body is the part from `body` to `size`; what follows the clause starts at `size`.
 #[derive(Clone, Copy, Debug, PartialEq, Eq)]
 pub enum Front {

@@ -1,9 +1,9 @@
 -- What is left of a book's clauses, byte by byte.
 --   split        a number is below another, or it is not
---   left_short, left_step, walks_step      where no clause can stand, and at a clause
+--   left_short, walks_short      where no clause can stand
+--   left_step, walks_step, walks_first      at a clause
 --   behind, next_left, next_walks      behind the clause
 --   first_groups, first_body, parts_spell      the parts of the field that stands first spell its clause
---   left_walk                    what is left where the clauses of an accepted book stand
 -- Assumes nothing.
 use Prim.Native.Nat.{ℕ, zero, suc, ◌-◌, ◌≤◌, ◌<◌}
 use mathlib.Core.Path.{◌≡◌, refl, sym, ap, ◌∙◌}

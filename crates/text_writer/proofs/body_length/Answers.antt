@@ -11,7 +11,10 @@ use Rattle.text_writer.proofs.body_length.Goals as goal
 
 pub sum-requires-clause-fits : goal.sum-requires-clause-fits
 sum-requires-clause-fits c =
-    sum_fits _ _ body_joined (λ w. w) _ _ (YieldsList-from_first (λ w. w) words_left _ (ap words_left c.map.ensures.source ∙ c.words_of.ensures)) c.map.ensures.closure (λ x r q k. search rules) _ (omega (arith, c.requires))
+    let yields = YieldsList-from_first (λ w. w) words_left _ (ap words_left c.map.ensures.source ∙ c.words_of.ensures) in
+    sum_fits _ _ body_joined (λ w. w) _ _ yields c.map.ensures.closure (λ x r q k. search rules) _ (omega (arith, c.requires))
 
 pub returns : goal.returns
-returns c = sum_is _ _ body_joined (λ w. w) _ _ (YieldsList-from_first (λ w. w) words_left _ (ap words_left c.map.ensures.source ∙ c.words_of.ensures)) c.map.ensures.closure (λ x r q k. search rules) _ c.sum.ensures.ran
+returns c =
+    let yields = YieldsList-from_first (λ w. w) words_left _ (ap words_left c.map.ensures.source ∙ c.words_of.ensures) in
+    sum_is _ _ body_joined (λ w. w) _ _ yields c.map.ensures.closure (λ x r q k. search rules) _ c.sum.ensures.ran

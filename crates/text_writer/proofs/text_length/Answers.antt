@@ -19,7 +19,8 @@ most b = omega (arith, text_length (meant b), text_most (meant b) (found b))
 
 pub sum-requires-clause-can : goal.sum-requires-clause-can
 sum-requires-clause-can c =
-    (tt, may_call _ _ clauses_joined clause_is _ (walk_yields _ (ap clauses_left c.map.ensures.source ∙ c.walk.ensures.left)) (λ x q k. search rules) (λ x h. omega (arith, h, most c.args.book.now)))
+    let yields = walk_yields _ (ap clauses_left c.map.ensures.source ∙ c.walk.ensures.left) in
+    (tt, may_call _ _ clauses_joined clause_is _ yields (λ x q k. search rules) (λ x h. omega (arith, h, most c.args.book.now)))
 
 pub sum-requires-clause-fits : goal.sum-requires-clause-fits
 sum-requires-clause-fits c =
